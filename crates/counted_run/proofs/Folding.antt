@@ -1,46 +1,68 @@
 -- What the counts of some harts are, one after the other.
-use Rattle.std.proofs.Common.{◌≡◌, ℕ, ◌+◌, ◌*◌, ◌^◌, ◌≤◌, ◌<◌, ◌∙◌, ◌==◌, Bool, true, false, if◌then◌else◌, List, [], ◌∷◌, map, drop, fold, length, get_or, refl, sym, ap, subst, arith, eq-eqb, add-one}
+use Rattle.std.proofs.Common.{◌≡◌, ℕ, ◌+◌, ◌*◌, ◌≤◌, ◌<◌, ◌∙◌, ◌==◌, Bool, true, false, if◌then◌else◌, List, [], ◌∷◌, map, drop, fold, length, get_or, refl, sym, ap, subst, arith, eq-eqb, add-one, add-mul, mul_comm}
 use Rattle.std.proofs.Math.Seq.{drop-cons}
 use Rattle.std.proofs.Math.ListN.{get_or-map}
 use Rattle.std.proofs.lemmas.List.{length-map}
 use Rattle.coz_types.specs.declared.HartId.{HartId}
-use Rattle.cost_table.specs.Costs.{cycles_of}
-use Rattle.cost_table.proofs.ByOpcode.{few_cycles}
-use Rattle.line_index.specs.Index.{Index}
 use Rattle.machines.specs.declared.Fate.{Fate}
 use Rattle.machines.specs.declared.Fate.TheVariants.{Goes, Waits, Leaves, Sleeps, Ends}
 use Rattle.machines.specs.Places.{is_among}
-use Rattle.guest_calls.specs.Guest.{Guest}
-use Rattle.guest_calls.specs.Retire.{next_of}
+use Rattle.timed_guest.specs.Guest.{Timed}
+use Rattle.timed_guest.specs.Retire.{cycles_of_next, line_counted}
 use Rattle.guest_calls.proofs.Among.{among_at}
 use Rattle.run_engine.specs.Begin.{started_by}
+use Rattle.run_engine.specs.Engine.{most_ticks}
+use Rattle.run_engine.proofs.Ticks.{whole_few}
 use Rattle.run_counts.specs.Counts.{Counts, place_in, IsWithin}
-use Rattle.run_counts.proofs.Within.{within_one, one_begun}
-use Rattle.counted_run.specs.Begun.{line_of, with_hart}
+use Rattle.run_counts.proofs.Within.{within_one, one_begun, one_all}
+use Rattle.counted_run.specs.Begun.{with_hart}
 
-pub few_ticks : (g : Guest) (h : ℕ) → 100 * cycles_of (next_of g h) ≤ 2 ^ 12
-few_ticks g h = let few = few_cycles (next_of g h) in omega arith
+times_next : (m n : ℕ) → m * (n + 1) ≡ m * n + m
+times_next m n =
+    let parts : (n + 1) * m ≡ n * m + 1 * m = add-mul n 1 m in
+    let left : m * (n + 1) ≡ (n + 1) * m = mul_comm m (n + 1) in
+    let right : m * n ≡ n * m = mul_comm m n in
+    omega (arith, parts, left, right)
 
-module _ (index : Index) (g : Guest) where
-  pub hart_within : (c : Counts) (h : ℕ) → IsWithin c → IsWithin (with_hart index g c h)
-  hart_within c h w = within_one (place_in (length c.lines) (line_of index g h)) (100 * cycles_of (next_of g h)) c (few_ticks g h) w
+module _ (g : Timed) where
+  pub hart_within : (c : Counts) (h : ℕ) → IsWithin c → IsWithin (with_hart g c h)
+  hart_within c h w = within_one (place_in (length c.lines) (line_counted g h)) (100 * cycles_of_next g h) c w
 
-  pub hart_begun : (c : Counts) (h : ℕ) → (with_hart index g c h).begun ≡ c.begun + 1
-  hart_begun c h = one_begun (place_in (length c.lines) (line_of index g h)) (100 * cycles_of (next_of g h)) c
+  pub hart_begun : (c : Counts) (h : ℕ) → (with_hart g c h).begun ≡ c.begun + 1
+  hart_begun c h = one_begun (place_in (length c.lines) (line_counted g h)) (100 * cycles_of_next g h) c
 
-  pub fold_within : (hs : List ℕ) (c : Counts) → IsWithin c → IsWithin (fold (with_hart index g) c hs)
+  pub hart_all : (c : Counts) (h : ℕ) → (with_hart g c h).all ≡ c.all + 100 * cycles_of_next g h
+  hart_all c h = one_all (place_in (length c.lines) (line_counted g h)) (100 * cycles_of_next g h) c
+
+  pub fold_within : (hs : List ℕ) (c : Counts) → IsWithin c → IsWithin (fold (with_hart g) c hs)
   fold_within [] c w = w
-  fold_within (h ∷ hs) c w = fold_within hs (with_hart index g c h) (hart_within c h w)
+  fold_within (h ∷ hs) c w = fold_within hs (with_hart g c h) (hart_within c h w)
 
-  pub fold_begun : (hs : List ℕ) (c : Counts) → (fold (with_hart index g) c hs).begun ≡ c.begun + length hs
+  pub fold_begun : (hs : List ℕ) (c : Counts) → (fold (with_hart g) c hs).begun ≡ c.begun + length hs
   fold_begun [] c = omega arith
   fold_begun (h ∷ hs) c =
       let one = hart_begun c h in
-      let rest : (fold (with_hart index g) (with_hart index g c h) hs).begun ≡ (with_hart index g c h).begun + length hs = fold_begun hs (with_hart index g c h) in
+      let rest : (fold (with_hart g) (with_hart g c h) hs).begun ≡ (with_hart g c h).begun + length hs = fold_begun hs (with_hart g c h) in
       omega arith
 
+  -- the work of so many instructions is at most that of as many of the dearest
+  abbrev most : ℕ
+  most = most_ticks g.beside.timing
+
+  pub hart_work : (c : Counts) (h : ℕ) → c.all ≤ most * c.begun → (with_hart g c h).all ≤ most * (with_hart g c h).begun
+  hart_work c h few =
+      let all = hart_all c h in
+      let one : 100 * cycles_of_next g h ≤ most = whole_few g h in
+      let more : most * (c.begun + 1) ≡ most * c.begun + most = times_next most c.begun in
+      let sum : (with_hart g c h).all ≤ most * (c.begun + 1) = omega (arith, few, all, one, more) in
+      subst (λ (n : ℕ). (with_hart g c h).all ≤ most * n) (sym (hart_begun c h)) sum
+
+  pub fold_work : (hs : List ℕ) (c : Counts) → c.all ≤ most * c.begun → (fold (with_hart g) c hs).all ≤ most * (fold (with_hart g) c hs).begun
+  fold_work [] c few = few
+  fold_work (h ∷ hs) c few = fold_work hs (with_hart g c h) (hart_work c h few)
+
   -- the hart that retired, and then those that it made or woke
-  pub both_folded : (h : ℕ) (fate : Fate) (others : List ℕ) (c : Counts) → fold (with_hart index g) (fold (with_hart index g) c (started_by h fate [])) others ≡ fold (with_hart index g) c (started_by h fate others)
+  pub both_folded : (h : ℕ) (fate : Fate) (others : List ℕ) (c : Counts) → fold (with_hart g) (fold (with_hart g) c (started_by h fate [])) others ≡ fold (with_hart g) c (started_by h fate others)
   both_folded h Goes others c = refl
   both_folded h Waits others c = refl
   both_folded h Leaves others c = refl

@@ -18,6 +18,7 @@ use run_counts::{Tallies, no_tallies};
 use run_engine::{Choice, Engine, FIRST, Setting};
 use std::alloc::{AllocError, Global};
 use std::marker::Model;
+use timing_model::Timing;
 
 /// The run of a program with no line selected, which counts what each line begins.
 ///
@@ -34,13 +35,13 @@ pub struct Counted<'a> {
 impl<'a> Model for Counted<'a> {
     ghost use Rattle.machines.specs.Delayed.{Delayed};
     ghost use Rattle.machines.specs.Standing.{standing};
-    ghost use Rattle.guest_calls.specs.Guest.{Guest};
+    ghost use Rattle.timed_guest.specs.Guest.{Timed};
     ghost use Rattle.run_engine.specs.Engine.{events_of};
     ghost use Rattle.run_engine.specs.Seen.{Seen, view_in};
     ghost use Rattle.run_counts.specs.Counts.{counts_of};
     ghost use Rattle.counted_run.specs.CountedRun.{IsCounting};
 
-    ghost Value = { Seen (Delayed Guest) };
+    ghost Value = { Seen (Delayed Timed) };
 
     ghost view = { λ counted. view_in counted.image.now counted.input.now counted.setting
         (λ x. standing x (events_of counted.engine)) };
@@ -54,22 +55,25 @@ impl<'a> Counted<'a> {
     ghost use Rattle.machines.specs.Delayed.{events};
     ghost use Rattle.machines.specs.Standing.{standing, delayed_record};
     ghost use Rattle.machines.specs.Records.{net, record_of, IsDelayed, shortened_record};
-    ghost use Rattle.run_engine.specs.Run.{IsChoice};
+    ghost use Rattle.run_engine.specs.Run.{IsChoice, IsMachine};
 
-    /// A run that is about to begin. The selected line and the speedup are not read. Takes 16
-    /// bytes for each line of the index. Fails only if out of memory.
+    /// A run that is about to begin on a machine of the timing model. A run of more than 10^10
+    /// instructions is one of the usual machine. The selected line and the speedup are not read.
+    /// Takes 16 bytes for each line of the index. Fails only if out of memory.
     pub fn new(
         alloc: Global,
         image: &'a Image<'a>,
         index: &'a LineIndex,
         points: &'a Points,
+        timing: Timing,
         input: &'a [u8],
         choice: Choice,
     ) -> Result<Counted<'a>, AllocError>
-        requires { IsChoice choice }
+        requires choice { IsChoice choice }
+        requires machine { IsMachine timing choice.budget }
         ensures { IfOk result (λ counted. counted
-            ≡ machine_view image.now index.now points.now input.now (plain_choice choice)
-            (λ x. standing x 0)) }
+            ≡ machine_view image.now index.now points.now timing input.now
+            (plain_choice choice) (λ x. standing x 0)) }
     {
         let choice = Choice {
             selected: None,
@@ -79,11 +83,12 @@ impl<'a> Counted<'a> {
         let setting = Setting {
             index,
             points,
+            timing,
             choice,
         };
         let mut tallies = no_tallies(alloc, index.count())?;
         let engine = Engine::new(alloc, image, input, &setting)?;
-        count(&mut tallies, index, &engine.guest, FIRST);
+        count(&mut tallies, &engine.guest, FIRST);
         Ok(Counted {
             image,
             input,
@@ -107,7 +112,7 @@ impl<'a> Counted<'a> {
     {
         while self.engine.ending().is_none() {
             let event = self.engine.advance(&self.setting, 0);
-            count_begun(&mut self.tallies, self.setting.index, &self.engine, event);
+            count_begun(&mut self.tallies, &self.engine, event);
         }
         match self.engine.ending() {
             Some(ending) => ending,
@@ -115,14 +120,15 @@ impl<'a> Counted<'a> {
         }
     }
 
-    /// The number of instructions of a line that were begun, at most 10^17. Once the run has
-    /// ended, it is the number of starts of the run that selects the line at speedup 0, which
-    /// otherwise equals this run. If it is 0, the run that selects the line equals this run at
-    /// every speedup.
+    /// The number of instructions that were begun and count for a line, at most 10^17: those of
+    /// the line, and on a machine that charges code without a line also those that the line is
+    /// charged. Once the run has ended, it is the number of starts of the run that selects the
+    /// line at speedup 0, which otherwise equals this run. If it is 0, the run that selects the
+    /// line equals this run at every speedup.
     pub fn starts(&self, line: LineId) -> u64
         requires { line.0 < length self.now.index.lines }
         ensures begun { let x = experiment_of self.now in result
-            ≡ starts_among x (on_line self.now.index line.0) (begun x (events self.now.state)) }
+            ≡ starts_among x (on_line line.0) (begun x (events self.now.state)) }
         ensures starts { IsSome self.now.state.ending
             → result ≡ (delayed_record (experiment_of (selecting_line line 0 self.now))).starts }
         ensures small { result ≤ 10 ^ 17 }
@@ -136,34 +142,33 @@ impl<'a> Counted<'a> {
         self.tallies.lines[line.0 as usize].starts
     }
 
-    /// The work of the instructions of a line that were begun, in ticks.
+    /// The work of the instructions that were begun and count for a line, in ticks.
     pub fn cost(&self, line: LineId) -> Tick
         requires { line.0 < length self.now.index.lines }
         ensures { let x = experiment_of self.now in result
-            ≡ cost_among x (on_line self.now.index line.0) (begun x (events self.now.state)) }
+            ≡ cost_among x (on_line line.0) (begun x (events self.now.state)) }
     {
         self.tallies.lines[line.0 as usize].cost
     }
 
-    /// The work of the instructions that were begun of code that has no line, in ticks.
+    /// The work of the instructions that were begun and count for no line, in ticks.
     pub fn cost_of_none(&self) -> Tick
         ensures { let x = experiment_of self.now in result
-            ≡ cost_among x (on_none self.now.index) (begun x (events self.now.state)) }
+            ≡ cost_among x (on_none (length self.now.index.lines)) (begun x (events self.now.state)) }
     {
         self.tallies.none
     }
 
     /// The work of all instructions that were begun, in ticks: that of all lines, and that of code
-    /// that has no line.
+    /// that counts for none.
     pub fn cost_of_all(&self) -> Tick
         ensures cost { let x = experiment_of self.now in result
             ≡ cost_among x (λ g h. true) (begun x (events self.now.state)) }
         ensures whole { let x = experiment_of self.now in
             let begun = begun x (events self.now.state) in
-            let index = self.now.index in
-            sum (map (λ line. cost_among x (on_line index line) begun)
-            (range_with_len 0 (length index.lines))) + cost_among x (on_none index) begun
-            ≡ result }
+            let count = length self.now.index.lines in
+            sum (map (λ line. cost_among x (on_line line) begun) (range_with_len 0 count))
+            + cost_among x (on_none count) begun ≡ result }
     {
         self.tallies.all
     }
@@ -199,7 +204,7 @@ impl<'a> Counted<'a> {
 
     /// The output, at most 67,108,864 bytes.
     pub fn output(&self) -> &[u8]
-        ensures bytes { result.now ≡ self.now.state.guest.output }
+        ensures bytes { result.now ≡ self.now.state.guest.guest.output }
         ensures few { length result.now ≤ MAX_OUTPUT }
     {
         self.engine.output()

@@ -21,7 +21,7 @@ use Rattle.program_load.specs.Selection.{line_named, lines_named}
 use Rattle.run_inputs.specs.Experiment.{Runs, choice_of, experiment_by_table}
 use Rattle.coz_commands.specs.Profiled.{all_lines, experiment_of_pair, pairs_of, profile_of}
 use Rattle.coz_commands.proofs.Profiling.{speedups_small}
-use Rattle.coz_commands.specs.Verdict.{Verdict, command_verdict, files_verdict, asked_verdict, named_verdict, points_verdict, plan_verdict, profile_verdict, profiled_verdict, run_verdict, really_verdict}
+use Rattle.coz_commands.specs.Verdict.{Verdict, command_verdict, files_verdict, asked_verdict, named_verdict, points_verdict, plan_verdict, profile_verdict, profiled_verdict, run_verdict, really_verdict, recorded_verdict}
 use Rattle.coz_cli.specs.Verdict.{verdict, request_verdict}
 use Rattle.coz_cli.specs.Headline.{IsAsked, IsPlanned, PrintsRun, PrintsProfile, PrintsReally, PrintsLatency, PrintsPath, PrintsShortened}
 use Rattle.coz_cli.proofs.Comes.{IsLike, files_come, few_pairs, few_points, like, like_asked, low_of, named_is}
@@ -80,7 +80,7 @@ pub record IsProfiled (held : Held) (asked : Request) (v : Verdict) : Type 0 whe
   pub is : v ≡ profile_verdict (profile_of runs lines asked.budget points pairs)
 
 pub profile_comes : (held : Held) (asked : Request) → (files_verdict asked held (profiled_verdict asked)).status ≤ 1 → IsProfiled held asked (files_verdict asked held (profiled_verdict asked))
-unfolding profiled_verdict
+unfolding recorded_verdict
 profile_comes held asked low =
     let v : Verdict = files_verdict asked held (profiled_verdict asked) in
     let comes = files_come held asked (profiled_verdict asked) low in

@@ -6,12 +6,12 @@ use Rattle.coz_words.specs.declared.command.Command.{Command}
 use Rattle.coz_words.specs.declared.command.Command.TheVariants.{Run, Really, Profile, Lines, Plot, Asm, Trial, Latency, Path}
 use Rattle.coz_words.specs.declared.request.Request.{Request}
 use Rattle.coz_commands.specs.Latencies.{latency_verdict}
-use Rattle.coz_commands.specs.Verdict.{Verdict, command_verdict, profiled_verdict}
+use Rattle.coz_commands.specs.Verdict.{Verdict, command_verdict, recorded_verdict}
 use Rattle.coz_cli.specs.Verdict.{request_verdict, verdict}
 use Rattle.coz_cli.specs.Headline.{AskAlike, PrintsForAnyWorkers}
 
 same_command : (c : Command) (asked : Request) (workers : ℕ) (held : Held) → command_verdict c asked held ≡ command_verdict c (record asked { workers = workers }) held
-unfolding profiled_verdict latency_verdict
+unfolding recorded_verdict latency_verdict
 same_command Run asked workers held = refl
 same_command Really asked workers held = refl
 same_command Profile asked workers held = refl

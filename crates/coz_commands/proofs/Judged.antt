@@ -15,13 +15,14 @@ use Rattle.run_inputs.proofs.Judged.{Judged, fault_of_request, judged_if, judged
 use Rattle.coz_commands.specs.CriticalPath.{path_on, path_printed, plain_run}
 use Rattle.experiment_plan.specs.Selected.{places_among}
 use Rattle.coz_commands.specs.Latencies.{latency_printed, latency_verdict, lines_of_both, net_at_each, speedups_of}
-use Rattle.coz_commands.specs.Profiled.{all_lines, pairs_of, profile_of}
+use Rattle.coz_commands.specs.Profiled.{all_lines, pairs_of, profile_from, Records}
 use Rattle.program_load.specs.Selection.{line_named, lines_named}
 use Rattle.coz_commands.specs.Answer.{Answer, IsMemory, FailedToRead, Suits, verdict_of}
 use Rattle.coz_commands.specs.Kinds.{printed_of}
+use Rattle.timing_model.specs.declared.timing.Timing.{Timing}
 use Rattle.coz_commands.specs.declared.runs.Kind.{Kind}
 use Rattle.coz_commands.specs.declared.runs.Kind.TheVariants.{Delayed, Shortened}
-use Rattle.coz_commands.specs.Verdict.{Verdict, Judging, asked_verdict, profiled_verdict, file_verdict, has_exited, plan_verdict, profile_verdict}
+use Rattle.coz_commands.specs.Verdict.{Verdict, Judging, asked_verdict, recorded_verdict, machine_verdict, file_verdict, has_exited, plan_verdict, profile_verdict}
 
 judged_plan : (pairs : List Pair) (next : List Pair → Verdict) → ((ps : List Pair) → Judged (next ps)) → Judged (plan_verdict pairs next)
 judged_plan pairs next each =
@@ -36,14 +37,14 @@ judged_asked asked print each lines runs =
     judged_points named _ (λ points.
     each (runs (choice_of selected asked.speedup asked.budget) points))))
 
-pub judged_profiled : (asked : Request) (lines : List Line) (runs : Runs) → Judged (profiled_verdict asked lines runs)
-unfolding profiled_verdict
-judged_profiled asked lines runs =
+judged_recorded : (asked : Request) (lines : List Line) (records : Records) → Judged (recorded_verdict asked lines records)
+unfolding recorded_verdict
+judged_recorded asked lines records =
     judged_named (lines_named lines (all_lines lines) asked.lines) _ (λ selected.
     judged_named (lines_named lines [] asked.progress) _ (λ named.
     judged_points named _ (λ points.
-    judged_plan (pairs_of selected asked.speedups) (λ pairs. profile_verdict (profile_of runs lines asked.budget points pairs))
-    (λ pairs. inl (low (list_all (λ (s : Summary). has_exited s.outcome.ending) (profile_of runs lines asked.budget points pairs).summaries))))))
+    judged_plan (pairs_of selected asked.speedups) (λ pairs. profile_verdict (profile_from records lines asked.budget points pairs))
+    (λ pairs. inl (low (list_all (λ (s : Summary). has_exited s.outcome.ending) (profile_from records lines asked.budget points pairs).summaries))))))
 
 pub judged_latency : (asked : Request) (lines : List Line) (runs : Runs) → Judged (latency_verdict asked lines runs)
 unfolding latency_verdict
@@ -85,6 +86,9 @@ module _ (asked : Request) (v : Verdict) (judged : Judged v) where
 pub suits_file : (next : Judging) (asked : Request) (file input : List ℕ) (answer : Answer) → ((lines : List Line) (runs : Runs) → Judged (next lines runs)) → (FailedToRead answer → ⊥)
     → ((IsMemory answer → ⊥) → verdict_of answer ≡ file_verdict next file input) → Suits asked answer
 suits_file next asked file input answer judged = suits_of asked (file_verdict next file input) (judged_file next file input judged) answer
+
+pub suits_machine : (t : Timing) (asked : Request) (file input : List ℕ) (answer : Answer) → (FailedToRead answer → ⊥) → ((IsMemory answer → ⊥) → verdict_of answer ≡ machine_verdict t asked file input) → Suits asked answer
+suits_machine t asked file input answer = suits_of asked (machine_verdict t asked file input) (judged_program file _ (λ image table. judged_recorded asked _ _)) answer
 
 judged_path : (budget : ℕ) (file input : List ℕ) → Judged (path_on budget file input)
 unfolding path_printed

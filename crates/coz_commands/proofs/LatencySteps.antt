@@ -1,11 +1,11 @@
 -- The verdict of latencies, by what is found of the line, the points and the runs.
-use Rattle.std.proofs.Common.{◌≡◌, ℕ, ◌+◌, ◌≤◌, ◌<◌, List, [], ◌∷◌, ◌++◌, length, take, get_or, nat_le, Bool, true, false, ◌&&◌, refl, sym, ap, ap₂, ◌∙◌, Option, Some}
+use Rattle.std.proofs.Common.{◌≡◌, ℕ, ◌+◌, ◌≤◌, ◌<◌, List, [], ◌∷◌, ◌++◌, length, take, get_or, nat_le, Bool, true, false, ◌&&◌, if◌then◌else◌, refl, sym, ap, ap₂, ◌∙◌, Option, Some}
 use Rattle.std.proofs.lemmas.List.{take_more}
 use Rattle.std.proofs.lemmas.List.Folds.{list_all-append}
-use Rattle.std.proofs.Math.Path.{fun_ext}
+use Rattle.std.proofs.lemmas.List.Elements.{All-head, All-tail}
 use Rattle.std.specs.List.{All, list_all}
 use Rattle.coz_types.specs.Image.{ImageParts}
-use Rattle.line_index.specs.Index.{Index, position_at}
+use Rattle.line_index.specs.Index.{Index}
 use Rattle.line_index.specs.Lines.{Line}
 use Rattle.progress_points.specs.Points.{Points, IsPoints, point_of}
 use Rattle.experiment_plan.specs.Selected.{places_among, rising_numbers}
@@ -16,8 +16,12 @@ use Rattle.machines.specs.Lead.{Before, at_speedup}
 use Rattle.machines.specs.Records.{NetRecord, net}
 use Rattle.machines.specs.Standing.{delayed_record}
 use Rattle.guest_calls.specs.Guest.{Guest}
+use Rattle.timing_model.specs.Timing.{usual}
+use Rattle.timing_model.proofs.Usual.{usual_is}
+use Rattle.timed_guest.specs.Guest.{Timed}
 use Rattle.run_engine.specs.Choices.{choice_of}
-use Rattle.run_engine.specs.Run.{experiment}
+use Rattle.run_engine.specs.Run.{timed_experiment}
+use Rattle.run_engine.proofs.Usual.{usual_delayed}
 use Rattle.run_engine.specs.Seen.{Seen, experiment_of}
 use Rattle.run_engine.specs.declared.choice.Choice.{Choice}
 use Rattle.coz_words.specs.Said.{Text}
@@ -28,7 +32,8 @@ use Rattle.run_inputs.specs.Experiment.{Runs, runs_in}
 use Rattle.coz_commands.specs.Latencies.{latency_printed, latency_verdict, marked_verdict, net_at_each, speedups_of}
 use Rattle.coz_types.specs.declared.PointId.{PointId}
 use Rattle.latency_points.specs.Moments.{numbers_of}
-use Rattle.command_texts.specs.LatencyText.{latency_line, run_line}
+use Rattle.command_texts.specs.LatencyText.{latency_line, latency_text, run_line}
+use Rattle.command_texts.specs.Printed.{has_exited}
 use Rattle.coz_commands.specs.declared.measuring.RunLatency.{RunLatency}
 use Rattle.coz_commands.specs.Measured.{measured_in, run_at}
 use Rattle.run_inputs.proofs.Indexed.{experiment_is}
@@ -42,17 +47,41 @@ few_rising speedups fit = all_among (λ p. p ≤ 95) (rising_numbers (0 ∷ spee
 
 -- ---- runs
 
+-- what is printed depends on the runs at these speedups alone
+text_alike : (arrive depart : List ℕ) (f g : ℕ → NetRecord) (speedups : List ℕ) → All (λ p. p ≤ 95) speedups → ((p : ℕ) → p ≤ 95 → f p ≡ g p) → latency_text arrive depart f speedups ≡ latency_text arrive depart g speedups
+text_alike arrive depart f g [] small same = refl
+text_alike arrive depart f g (p ∷ speedups) small same =
+    ap₂ (λ (one rest : List ℕ). one ++ rest) (ap (run_line arrive depart p) (same p (All-head (λ p. p ≤ 95) p speedups small)))
+    (text_alike arrive depart f g speedups (All-tail (λ p. p ≤ 95) p speedups small) same)
+
+all_alike : (f g : ℕ → NetRecord) (speedups : List ℕ) → All (λ p. p ≤ 95) speedups → ((p : ℕ) → p ≤ 95 → f p ≡ g p) → list_all (λ p. has_exited (f p).ending) speedups ≡ list_all (λ p. has_exited (g p).ending) speedups
+all_alike f g [] small same = refl
+all_alike f g (p ∷ speedups) small same =
+    ap₂ (λ (one rest : Bool). one && rest) (ap (λ (r : NetRecord). has_exited r.ending) (same p (All-head (λ p. p ≤ 95) p speedups small)))
+    (all_alike f g speedups (All-tail (λ p. p ≤ 95) p speedups small) same)
+
+abbrev latency_answered : Bool → List ℕ → Verdict
+latency_answered all text = record { status = if all then 0 else 1; text = text; line = [] }
+
+printed_alike : (arrive depart : List ℕ) (f g : ℕ → NetRecord) (speedups : List ℕ) → All (λ p. p ≤ 95) speedups → ((p : ℕ) → p ≤ 95 → f p ≡ g p) → latency_printed arrive depart f speedups ≡ latency_printed arrive depart g speedups
+printed_alike arrive depart f g speedups small same =
+    ap₂ (λ (all : Bool) (text : List ℕ). latency_answered all text) (all_alike f g speedups small same) (text_alike arrive depart f g speedups small same)
+
 -- the runs of a lead that was made by an index are those by its lines
-pub runs_are : (image : ImageParts) (index : Index) (input : List ℕ) (points : Points) (selected budget : ℕ) (choice : Choice) (lead : Seen (Before Guest))
-    → IsPoints index points.lines points → choice ≡ choice_of (Some selected) 0 budget
-    → experiment_of lead ≡ experiment image (position_at index) (point_of points) input choice
-    → run_at lead ≡ net_at_each (runs_in image index input) (Some selected) budget points.lines
-runs_are image index input points selected budget choice lead are chosen is =
-    fun_ext (λ (speedup : ℕ).
-    ap (λ (x : Experiment Guest). net (delayed_record (at_speedup speedup x))) is
-    ∙ ap (λ (x : Experiment Guest). net (delayed_record x))
-    (experiment_is image index input points points.lines (record choice { speedup = speedup }) (choice_of (Some selected) speedup budget) are
-    (ap (λ (c : Choice). record c { speedup = speedup }) chosen)))
+module _ (image : ImageParts) (index : Index) (input : List ℕ) (points : Points) (selected budget : ℕ) (choice : Choice) (lead : Seen (Before Timed)) (are : IsPoints index points.lines points) (chosen : choice ≡ choice_of (Some selected) 0 budget)
+    (is : experiment_of lead ≡ timed_experiment usual image index (point_of points) input choice) where
+  run_is : (speedup : ℕ) → speedup ≤ 95 → run_at lead speedup ≡ net_at_each (runs_in image index input) (Some selected) budget points.lines speedup
+  run_is speedup small =
+      ap (λ (x : Experiment Timed). net (delayed_record (at_speedup speedup x))) is
+      ∙ ap net (usual_delayed usual usual_is image index (point_of points) input (record choice { speedup = speedup }) small)
+      ∙ ap (λ (x : Experiment Guest). net (delayed_record x))
+      (experiment_is image index input points points.lines (record choice { speedup = speedup }) (choice_of (Some selected) speedup budget) are
+      (ap (λ (c : Choice). record c { speedup = speedup }) chosen))
+
+  -- so what is printed of them is the same
+  pub runs_are : (arrive depart speedups : List ℕ) → All (λ p. p ≤ 95) speedups → latency_printed arrive depart (run_at lead) speedups ≡ latency_printed arrive depart (net_at_each (runs_in image index input) (Some selected) budget points.lines) speedups
+  runs_are arrive depart speedups small =
+      printed_alike arrive depart (run_at lead) (net_at_each (runs_in image index input) (Some selected) budget points.lines) speedups small run_is
 
 -- ---- one step after the other
 

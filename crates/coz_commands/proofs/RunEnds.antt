@@ -8,7 +8,7 @@ use Rattle.machines.specs.Delayed.{Delayed}
 use Rattle.machines.specs.Shortened.{NetVisit}
 use Rattle.machines.specs.KeptVisits.{net_of, visit_as}
 use Rattle.machines.specs.Records.{net, net_visit, record_of}
-use Rattle.guest_calls.specs.Guest.{Guest}
+use Rattle.timed_guest.specs.Guest.{Timed}
 use Rattle.virtual_run.specs.DelayedRun.{outcome_of}
 use Rattle.run_engine.specs.Seen.{Seen, experiment_of}
 use Rattle.latency_points.specs.declared.latency.Latency.{Latency}
@@ -18,12 +18,12 @@ use Rattle.coz_commands.specs.declared.measuring.RunLatency.{RunLatency}
 use Rattle.coz_commands.specs.Measured.{measured_in}
 
 -- the numbers of an outcome are those of the state
-pub record IsOf (o : Outcome) (d : Delayed Guest) : Type 0 where
+pub record IsOf (o : Outcome) (d : Delayed Timed) : Type 0 where
   pub ending : d.ending ≡ Some o.ending
   pub time : o.time ≡ d.now
   pub delay : o.delay ≡ d.delay
 
-pub outcome_is : (o : Outcome) (d : Delayed Guest) → Some o ≡ outcome_of d → IsOf o d
+pub outcome_is : (o : Outcome) (d : Delayed Timed) → Some o ≡ outcome_of d → IsOf o d
 outcome_is o d e = go d.ending e refl
   where
     go : (ending : Option Ending) → Some o ≡ option_map (λ a. record { ending = a; time = d.now; delay = d.delay; retired = d.retired; starts = d.starts }) ending → d.ending ≡ ending → IsOf o d
@@ -43,12 +43,12 @@ nets (v ∷ vs) = ap (λ (ns : List NetVisit). net_of v ∷ ns) (nets vs)
 some_same : (a b : Ending) → Some a ≡ Some b → a ≡ b
 some_same a b e = cc
 
-pub measured_is : (machine : Seen (Delayed Guest)) (visits : List Visit) (arrive depart : List PointId) (o : Outcome) (end : ℕ) (l : Latency) (ending : Ending) → IsOf o machine.state → machine.state.ending ≡ Some ending
+pub measured_is : (machine : Seen (Delayed Timed)) (visits : List Visit) (arrive depart : List PointId) (o : Outcome) (end : ℕ) (l : Latency) (ending : Ending) → IsOf o machine.state → machine.state.ending ≡ Some ending
     → map visit_as visits ≡ machine.state.visits → end ≡ o.time - o.delay
     → l ≡ latency_of (moments_of (numbers_of arrive) (numbers_of depart) (map net_of visits)) end
     → ◌≡◌ {A = RunLatency} (record { ending = o.ending; net = end; latency = l }) (measured_in arrive depart (net (record_of (experiment_of machine) machine.state ending)))
 measured_is machine visits arrive depart o end l ending is over kept ends told =
-    let d : Delayed Guest = machine.state in
+    let d : Delayed Timed = machine.state in
     let when : end ≡ d.now - d.delay = ends ∙ ap₂ (λ (t u : ℕ). t - u) is.time is.delay in
     let same : o.ending ≡ ending = some_same o.ending ending (sym is.ending ∙ over) in
     let all : map net_of visits ≡ map net_visit d.visits = nets visits ∙ ap (map net_visit) kept in

@@ -28,7 +28,11 @@ use Rattle.experiment_plan.specs.declared.experiment.PlanError.{PlanError}
 use Rattle.experiment_plan.specs.declared.experiment.PlanError.TheVariants as planning
 use Rattle.experiment_plan.proofs.Pairing.{many}
 use Rattle.coz_types.specs.declared.record.Summary.{Summary}
+use Rattle.std.proofs.Math.Path.{fun_ext}
+use Rattle.machines.specs.Guest.{Experiment}
 use Rattle.machines.specs.Standing.{delayed_record}
+use Rattle.guest_calls.specs.Guest.{Guest}
+use Rattle.run_engine.specs.Choices.{choice_of}
 use Rattle.progress_points.specs.Points.{Points, IsPoints}
 use Rattle.profile_book.specs.declared.profile.Profile.{Profile}
 use Rattle.rv_asm.specs.Assembled.{Program, IsProgram, assembled}
@@ -48,15 +52,15 @@ use Rattle.program_load.specs.declared.fault.Fault.{Fault}
 use Rattle.coz_commands.specs.Answer.{IsMemoryFault, fault_verdict}
 use Rattle.program_load.specs.Causes.{assembling_fault, planning_fault}
 use Rattle.run_inputs.specs.Experiment.{Runs, experiment_by_table, runs_in}
-use Rattle.profile_pool.specs.Summaries.{summaries_of}
-use Rattle.coz_commands.specs.Profiled.{experiment_of_pair, pairs_of, summary_on}
+use Rattle.profile_pool.specs.Summaries.{summary_in, summaries_of}
+use Rattle.coz_commands.specs.Profiled.{delayed_records, experiment_of_pair, pairs_of, summary_on}
 use Rattle.program_load.specs.LineTable.{table_in}
 use Rattle.coz_commands.specs.Trial.{IsTrialFile, tenths, trial_file, trial_name, trial_plan, trial_point, trial_profile, trial_program}
 use Rattle.coz_commands.specs.Verdict.{Verdict, assembled_verdict, file_verdict, named_verdict, text_verdict, program_verdict, trial_judging, trial_printed, trial_verdict}
 use Rattle.program_load.proofs.Files.{whole_program}
-use Rattle.run_inputs.proofs.Indexed.{indexed}
+use Rattle.run_inputs.proofs.Indexed.{indexed, experiment_is}
 use Rattle.coz_commands.proofs.PointLine.{word_found}
-use Rattle.coz_commands.proofs.Profiling.{pairs_are, same_profile, summaries_are}
+use Rattle.coz_commands.proofs.Profiling.{pairs_are, same_profile}
 use Rattle.run_inputs.proofs.Faults.{is_memory}
 
 same_ok : {A E : Type 0} {x y : A} → (let r : Result A E = Ok x in r ≡ Ok y) → x ≡ y
@@ -232,6 +236,17 @@ plan_memory lines planning.Memory few is = tt
 pub label_one : (lines : List Line) (k : ℕ) (text : List ℕ) → slice_get (map label lines) k ≡ Some text → text ≡ label_at lines k
 label_one lines k text is = sym (get_or_from_slice_get (map label lines) k text [] is)
 
+-- the summaries of a plan's runs by an index are those by its lines and runs
+alone_summaries : (image : ImageParts) (index : Index) (points : Points) (input : List ℕ) (budget : ℕ) (pairs : List Pair) → IsPoints index points.lines points
+    → summaries_of image index points input budget pairs
+    ≡ map (λ pair. summary_on index.lines points.lines pair (delayed_record (experiment_of_pair (runs_in image index input) budget points.lines pair))) pairs
+unfolding summary_in
+alone_summaries image index points input budget pairs are =
+    ap (λ (f : Pair → Summary). map f pairs)
+    (fun_ext (λ (pair : Pair).
+    ap (λ (x : Experiment Guest). summary_on index.lines points.lines pair (delayed_record x))
+    (experiment_is image index input points points.lines (choice_of (Some pair.line.0) pair.speedup budget) (choice_of (Some pair.line.0) pair.speedup budget) are refl)))
+
 module _ (image : ImageParts) (index : Index) (points : Points) (point : ℕ) (pairs : List Pair) where
   abbrev on_points : List ℕ → List Pair → List Summary
   on_points ps all = map (λ pair. summary_on index.lines ps pair (delayed_record (experiment_of_pair (runs_in image index []) 100000000 ps pair))) all
@@ -242,13 +257,13 @@ module _ (image : ImageParts) (index : Index) (points : Points) (point : ℕ) (p
   unfolding trial_profile
   summaries_of_trial summaries are planned ran =
       let here : IsPoints index points.lines points = subst (λ (ps : List ℕ). IsPoints index ps points) (sym are.lines) are in
-      ran ∙ summaries_are image index points [] 100000000 pairs here ∙ ap (λ (ps : List ℕ). on_points ps pairs) are.lines ∙ ap (on_points (point ∷ [])) planned
+      ran ∙ alone_summaries image index points [] 100000000 pairs here ∙ ap (λ (ps : List ℕ). on_points ps pairs) are.lines ∙ ap (on_points (point ∷ [])) planned
 
 module _ (runs : Runs) (lines : List Line) (point : ℕ) where
   pub profile_is : (labels : List (List ℕ)) (summaries : List Summary) → labels ≡ map (label_at lines) (point ∷ []) → summaries ≡ (trial_profile runs lines point).summaries
       → ◌≡◌ {A = Profile} (record { budget = 100000000; points = labels; summaries = summaries }) (trial_profile runs lines point)
   unfolding trial_profile
-  profile_is labels summaries named ran = same_profile lines runs 100000000 (point ∷ []) (trial_plan lines) labels summaries named ran
+  profile_is labels summaries named ran = same_profile lines (delayed_records runs) 100000000 (point ∷ []) (trial_plan lines) labels summaries named ran
 
   pub as_many : length (trial_profile runs lines point).summaries ≡ length (trial_plan lines)
   unfolding trial_profile

@@ -7,7 +7,8 @@ use Rattle.progress_points.specs.Points.{Points}
 use Rattle.machines.specs.Lead.{Before, at_speedup}
 use Rattle.machines.specs.Records.{NetRecord, net}
 use Rattle.machines.specs.Standing.{delayed_record}
-use Rattle.guest_calls.specs.Guest.{Guest}
+use Rattle.timing_model.specs.declared.timing.Timing.{Timing}
+use Rattle.timed_guest.specs.Guest.{Timed}
 use Rattle.run_engine.specs.declared.choice.Choice.{Choice}
 use Rattle.run_engine.specs.Seen.{Seen, experiment_of}
 use Rattle.latency_points.specs.Latency.{latency_of}
@@ -24,15 +25,17 @@ measured_in arrive depart run = record {
 }
 
 -- the net part of the record of a lead's line at a speedup
-abbrev pub run_at : Seen (Before Guest) → ℕ → NetRecord
+abbrev pub run_at : Seen (Before Timed) → ℕ → NetRecord
 run_at lead speedup = net (delayed_record (at_speedup speedup (experiment_of lead)))
 
 -- what a run is made with, apart from the selected line and the speedup
-abbrev pub arguments_of : ImageParts → Index → Points → List ℕ → Choice → Seen (Unit {0})
-arguments_of image index points input choice = record {
+abbrev pub arguments_of : ImageParts → Index → Points → Timing → List ℕ → Choice
+    → Seen (Unit {0})
+arguments_of image index points timing input choice = record {
   image = image;
   index = index;
   points = points;
+  timing = timing;
   input = input;
   choice = record choice { selected = None; speedup = 0 };
   state = tt;

@@ -21,6 +21,8 @@ use Rattle.machines.specs.Records.{Record, NetRecord, shortened_record}
 use Rattle.machines.specs.Standing.{delayed_record}
 use Rattle.guest_calls.specs.Guest.{Guest}
 use Rattle.line_index.specs.Lines.{Line}
+use Rattle.line_index.specs.Listed.{lines_in}
+use Rattle.timing_model.specs.declared.timing.Timing.{Timing}
 use Rattle.experiment_plan.specs.declared.experiment.Experiment.{Experiment as Pair}
 use Rattle.profile_book.specs.Profile.{profile_text}
 use Rattle.profile_reader.specs.declared.TheConstants.{MAX_PROFILE}
@@ -34,7 +36,7 @@ use Rattle.run_inputs.specs.Experiment.{choice_of}
 pub use Rattle.run_inputs.specs.Verdict.{Judging, file_verdict, bytes_verdict, files_verdict}
 use Rattle.coz_commands.specs.CriticalPath.{path_on}
 use Rattle.program_load.specs.FaultLines.{source_line, plan_line, book_line}
-use Rattle.coz_commands.specs.Profiled.{all_lines, pairs_of, profile_of}
+use Rattle.coz_commands.specs.Profiled.{all_lines, pairs_of, profile_from, delayed_records, timed_by_table, Records}
 use Rattle.coz_commands.specs.Latencies.{latency_verdict}
 use Rattle.coz_commands.specs.Trial.{trial_file, trial_point, trial_profile, trial_program, trial_text}
 
@@ -75,14 +77,25 @@ abbrev pub plan_verdict : List Pair → (List Pair → Verdict) → Verdict
 plan_verdict pairs next =
     if nat_lt MAX_PAIRS (length pairs) then refusal 9 (plan_line (length pairs)) else next pairs
 
--- of the profile that a request asks for
-unfoldable pub profiled_verdict : Request → Judging
-profiled_verdict asked lines runs =
+-- of the profile that a request asks for, by what its runs leave
+unfoldable pub recorded_verdict : Request → List Line → Records → Verdict
+recorded_verdict asked lines records =
     named_verdict (lines_named lines (all_lines lines) asked.lines) (λ selected.
     named_verdict (lines_named lines [] asked.progress) (λ named.
     points_verdict named (λ points.
     plan_verdict (pairs_of selected asked.speedups) (λ pairs.
-    profile_verdict (profile_of runs lines asked.budget points pairs)))))
+    profile_verdict (profile_from records lines asked.budget points pairs)))))
+
+-- of the delayed runs of a program
+abbrev pub profiled_verdict : Request → Judging
+profiled_verdict asked lines runs = recorded_verdict asked lines (delayed_records runs)
+
+-- of the profile that a request asks for of the program in a file, on a machine of the timing model
+abbrev pub machine_verdict : Timing → Request → List ℕ → List ℕ → Verdict
+machine_verdict t asked file input =
+    program_verdict file (λ image table.
+    recorded_verdict asked (lines_in table image.areas)
+    (delayed_records (timed_by_table t image table input)))
 
 -- of the critical path that a request asks for
 abbrev pub path_verdict : Request → Held → Verdict

@@ -24,6 +24,7 @@ use progress_points::Points;
 use run_inputs::read_inputs;
 use run_subject::Subject;
 use std::alloc::Global;
+use timing_model::Timing;
 use virtual_run::Choice;
 
 /// The text of the delayed run of the program that a request names.
@@ -147,6 +148,7 @@ fn run_of_program<'r>(
         image: &program.image,
         index: &program.index,
         points: &asked.points,
+        timing: Timing::usual(),
         input,
     };
     run_answer(alloc, kind, &subject, asked.choice)

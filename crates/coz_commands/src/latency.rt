@@ -4,6 +4,7 @@
 //! of each list among them. One lead runs to the line's first start. Each speedup is forked from it
 //! onto one machine, which runs to its end. `latency_points::measure` passes each net visit to a
 //! `Flow`, which is closed at the run's net time.
+ghost use Rattle.timing_model.specs.Timing.{usual};
 ghost use Rattle.std.specs.Prelude.{◌≡◌, ◌&&◌, ◌≤◌, ◌<◌, ℕ, List, length, All, Some, IsSome, IfOk, IfSome, IfNone, if◌then◌else◌};
 ghost use Rattle.std.specs.List.{list_all};
 ghost use Rattle.coz_types.specs.declared.LineId.{LineId};
@@ -37,6 +38,7 @@ use progress_points::Points;
 use run_inputs::read_inputs;
 use run_subject::Subject;
 use std::alloc::Global;
+use timing_model::Timing;
 use virtual_run::{Choice, Lead, Machine};
 
 /// The points of two lists of lines, and which of them each list names.
@@ -208,7 +210,7 @@ fn machine_answer<'r, 'a>(
 ) -> Answer<'r>
     requires choice { IsChoice choice }
     requires lead { arguments lead.old
-        ≡ arguments_of subject.now.image.now subject.now.index.now subject.now.points.now
+        ≡ arguments_of subject.now.image.now subject.now.index.now subject.now.points.now usual
         subject.now.input.now choice }
     requires small { All (λ speedup. speedup ≤ MAX_SPEEDUP) asked.now.speedups.items }
     ensures no_read { FailedToRead result → ⊥ }
@@ -254,6 +256,7 @@ fn runs_answer<'r>(
         image: &program.image,
         index: &program.index,
         points: &asked.marked.points,
+        timing: Timing::usual(),
         input,
     };
     let mut lead = Lead::new(

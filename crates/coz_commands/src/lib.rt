@@ -19,6 +19,6 @@ pub use latency::judge_latency;
 pub use lines::judge_lines;
 pub use path::judge_path;
 pub use plot::judge_plot;
-pub use profile::judge_profile;
+pub use profile::{judge_profile, judge_profile_on};
 pub use source::judge_source;
 pub use trial::judge_trial;

@@ -12,9 +12,9 @@ ghost use Rattle.progress_points.specs.Points.{IsPoints};
 ghost use Rattle.experiment_plan.specs.declared.experiment.Experiment.{Experiment};
 ghost use Rattle.experiment_plan.specs.Selected.{ids};
 ghost use Rattle.coz_words.specs.Request.{IsFit};
-ghost use Rattle.run_inputs.specs.Experiment.{Runs, runs_on};
-ghost use Rattle.coz_commands.specs.Profiled.{pairs_of, profile_of};
-ghost use Rattle.coz_commands.specs.Verdict.{Verdict, file_verdict, files_verdict, has_exited, plan_verdict, profile_verdict, profiled_verdict};
+ghost use Rattle.run_engine.specs.Run.{IsMachine};
+ghost use Rattle.coz_commands.specs.Profiled.{pairs_of, profile_from, delayed_records, timed_in, Records};
+ghost use Rattle.coz_commands.specs.Verdict.{Verdict, bytes_verdict, files_verdict, has_exited, machine_verdict, plan_verdict, profile_verdict, profiled_verdict, recorded_verdict};
 ghost use Rattle.coz_commands.specs.Answer.{verdict_of, verdict_after, printed_verdict, IsMemory, FailedToRead, Suits, Settles};
 
 use crate::answer::Answer;
@@ -32,6 +32,7 @@ use run_inputs::read_inputs;
 use run_subject::Subject;
 use std::alloc::{AllocError, Global};
 use std::thread::Threads;
+use timing_model::Timing;
 
 /// The labels of the points' lines.
 fn point_labels(
@@ -112,10 +113,10 @@ fn asked_plan<'r>(
 ) -> Result<AskedPlan, Fault<'r>>
     requires fit { IsFit request.now }
     ensures no_read { FailedToRead result → ⊥ }
-    ensures verdict { (IsMemory result → ⊥) → (runs : Runs) →
+    ensures verdict { (IsMemory result → ⊥) → (records : Records) →
         verdict_after result (λ asked. profile_verdict
-        (profile_of runs index.now.lines request.now.budget asked.points.lines asked.plan))
-        ≡ profiled_verdict request.now index.now.lines runs }
+        (profile_from records index.now.lines request.now.budget asked.points.lines asked.plan))
+        ≡ recorded_verdict request.now index.now.lines records }
     ensures points { IfOk result (λ asked. IsPoints index.now asked.points.lines asked.points) }
     ensures few { IfOk result (λ asked. length asked.points.lines ≤ MAX_POINTS) }
     ensures below { IfOk result (λ asked.
@@ -129,13 +130,14 @@ fn asked_plan<'r>(
     Ok(AskedPlan { points, plan })
 }
 
-/// The text of the profile of a plan.
+/// The text of the profile of a plan on a machine.
 #[tactic(auto, using(crate::proofs::Budgets::few_budget))]
 fn plan_answer<'r, R: Threads + Sync, G: Gate>(
     rt: &R,
     alloc: Global,
     program: &Program,
     points: &Points,
+    timing: Timing,
     input: &[u8],
     plan: &Plan,
     request: &'r Request,
@@ -143,6 +145,7 @@ fn plan_answer<'r, R: Threads + Sync, G: Gate>(
 ) -> Answer<'r>
     requires fit { IsFit request.now }
     requires some_budget { 1 ≤ request.now.budget }
+    requires machine { IsMachine timing request.now.budget }
     requires some_workers { 1 ≤ request.now.workers }
     requires points { IsPoints program.now.index points.now.lines points.now }
     requires few { length points.now.lines ≤ MAX_POINTS }
@@ -150,7 +153,8 @@ fn plan_answer<'r, R: Threads + Sync, G: Gate>(
     requires lines { All (λ (pair : Experiment). pair.line.0 < length program.now.index.lines) plan.now }
     ensures no_read { FailedToRead result → ⊥ }
     ensures verdict { (IsMemory result → ⊥) → verdict_of result ≡ profile_verdict
-        (profile_of (runs_on program.now input.now)
+        (profile_from
+        (delayed_records (timed_in timing program.now.image program.now.index input.now))
         program.now.index.lines request.now.budget points.now.lines plan.now) }
 {
     let labels = point_labels(alloc, &program.index, points)?;
@@ -158,8 +162,11 @@ fn plan_answer<'r, R: Threads + Sync, G: Gate>(
         image: &program.image,
         index: &program.index,
         points,
+        timing,
         input,
     };
+    // The speedups of a plan are known to a proof once its pairs are read.
+    let _ = plan.pairs();
     let summaries = run_plan(
         rt,
         alloc,
@@ -176,22 +183,25 @@ fn plan_answer<'r, R: Threads + Sync, G: Gate>(
     }))
 }
 
-/// The text of the profile of a program with these lines, if it has those that are named
-/// and the plan isn't too large.
+/// The text of the profile of a program on a machine, if it has the lines that are named and the
+/// plan isn't too large.
 fn profile_answer<'r, R: Threads + Sync, G: Gate>(
     rt: &R,
     alloc: Global,
     program: &Program,
+    timing: Timing,
     input: &[u8],
     request: &'r Request,
     gate: &G,
 ) -> Answer<'r>
     requires fit { IsFit request.now }
     requires some_budget { 1 ≤ request.now.budget }
+    requires machine { IsMachine timing request.now.budget }
     requires some_workers { 1 ≤ request.now.workers }
     ensures no_read { FailedToRead result → ⊥ }
     ensures verdict { (IsMemory result → ⊥) → verdict_of result ≡
-        profiled_verdict request.now program.now.index.lines (runs_on program.now input.now) }
+        recorded_verdict request.now program.now.index.lines
+        (delayed_records (timed_in timing program.now.image program.now.index input.now)) }
 {
     let asked = asked_plan(alloc, &program.index, request)?;
     plan_answer(
@@ -199,6 +209,7 @@ fn profile_answer<'r, R: Threads + Sync, G: Gate>(
         alloc,
         program,
         &asked.points,
+        timing,
         input,
         &asked.plan,
         request,
@@ -206,8 +217,44 @@ fn profile_answer<'r, R: Threads + Sync, G: Gate>(
     )
 }
 
-/// The text of the profile of the program that a request names.
+/// The text of the profile of the program that a request names, on a machine of the timing model.
 /// Err is the first fault of the files, the program, its lines and the plan, or out of memory.
+pub fn judge_profile_on<'r, R: Threads + Sync, F: Files, G: Gate>(
+    rt: &R,
+    alloc: Global,
+    timing: Timing,
+    request: &'r Request,
+    files: &mut F,
+    gate: &G,
+) -> Answer<'r>
+    requires fit { IsFit request.now }
+    requires some_budget { 1 ≤ request.now.budget }
+    requires machine { IsMachine timing request.now.budget }
+    requires some_workers { 1 ≤ request.now.workers }
+    ensures same { F.held files.new ≡ F.held files.old }
+    ensures fault_of_request { Suits request.now result }
+    ensures verdict { IfSome (F.held files.old) (λ held. (IsMemory result → ⊥) →
+        Settles (bytes_verdict request.now held (machine_verdict timing request.now))
+        (F.faults files.old) (F.faults files.new) result) }
+    ensures read_fault_has_cause { FailedToRead result
+        → IfNone (F.held files.old) (Rose (F.faults files.old) (F.faults files.new)) }
+    ensures no_fault { (FailedToRead result → ⊥) → F.faults files.new ≡ F.faults files.old }
+{
+    let inputs = read_inputs(alloc, request, files)?;
+    profile_of_file(
+        rt,
+        alloc,
+        &inputs.program,
+        timing,
+        &inputs.input,
+        request,
+        gate,
+    )
+}
+
+/// The text of the profile of the program that a request names, on the usual machine.
+/// Err is the first fault of the files, the program, its lines and the plan, or out of memory.
+#[tactic(auto, using(crate::proofs::Budgets::few_budget))]
 pub fn judge_profile<'r, R: Threads + Sync, F: Files, G: Gate>(
     rt: &R,
     alloc: Global,
@@ -227,15 +274,15 @@ pub fn judge_profile<'r, R: Threads + Sync, F: Files, G: Gate>(
         → IfNone (F.held files.old) (Rose (F.faults files.old) (F.faults files.new)) }
     ensures no_fault { (FailedToRead result → ⊥) → F.faults files.new ≡ F.faults files.old }
 {
-    let inputs = read_inputs(alloc, request, files)?;
-    profile_of_file(rt, alloc, &inputs.program, &inputs.input, request, gate)
+    judge_profile_on(rt, alloc, Timing::usual(), request, files, gate)
 }
 
-/// The text of the profile of the program in a file, or its first fault.
+/// The text of the profile of the program in a file on a machine, or its first fault.
 fn profile_of_file<'r, R: Threads + Sync, G: Gate>(
     rt: &R,
     alloc: Global,
     file: &[u8],
+    timing: Timing,
     input: &[u8],
     request: &'r Request,
     gate: &G,
@@ -243,11 +290,12 @@ fn profile_of_file<'r, R: Threads + Sync, G: Gate>(
     requires short { length file.now ≤ MAX_PROGRAM }
     requires fit { IsFit request.now }
     requires some_budget { 1 ≤ request.now.budget }
+    requires machine { IsMachine timing request.now.budget }
     requires some_workers { 1 ≤ request.now.workers }
     ensures no_read { FailedToRead result → ⊥ }
     ensures verdict { (IsMemory result → ⊥) → verdict_of result
-        ≡ file_verdict (profiled_verdict request.now) file.now input.now }
+        ≡ machine_verdict timing request.now file.now input.now }
 {
     let program = read_program(alloc, file)?;
-    profile_answer(rt, alloc, &program, input, request, gate)
+    profile_answer(rt, alloc, &program, timing, input, request, gate)
 }

@@ -4,7 +4,8 @@ ghost use Rattle.coz_types.specs.declared.ending.Ending.{Ending};
 ghost use Rattle.delay_credits.specs.Delays.{account_as};
 ghost use Rattle.run_engine.specs.Run.{IsChoice};
 ghost use Rattle.run_engine.specs.Seen.{experiment_of};
-ghost use Rattle.run_subject.specs.Subjects.{experiment_on};
+ghost use Rattle.run_subject.specs.Subjects.{experiment_alone};
+ghost use Rattle.timing_model.specs.Timing.{IsUsual};
 ghost use Rattle.guest_calls.specs.Guest.{Guest};
 ghost use Rattle.machines.specs.Delayed.{Hart};
 ghost use Rattle.machines.specs.Records.{net_record_of, record_of, shortened_record};
@@ -33,6 +34,7 @@ pub enum Kind {
 
 /// The account of each hart that was made.
 fn accounts(alloc: Global, machine: &Machine) -> Result<Vec<Account>, AllocError>
+    requires { IsUsual machine.now.timing }
     ensures { IfOk result (λ accounts. map account_as accounts.items
         ≡ map (λ (hart : Hart). hart.account) machine.now.state.harts) }
 {
@@ -48,7 +50,8 @@ fn accounts(alloc: Global, machine: &Machine) -> Result<Vec<Account>, AllocError
 
 /// The text that `run` prints of a run that has ended.
 fn machine_text(alloc: Global, machine: &Machine) -> Result<Vec<u8>, AllocError>
-    requires { IsSome machine.now.state.ending }
+    requires usual { IsUsual machine.now.timing }
+    requires ended { IsSome machine.now.state.ending }
     ensures { (ending : Ending) → machine.now.state.ending ≡ Some ending
         → IfOk result (λ text. text.items ≡
         run_text (record_of (experiment_of machine.now) machine.now.state ending)) }
@@ -76,8 +79,9 @@ fn printed_run(ending: Ending, text: Vec<u8>) -> Printed
     }
 }
 
-/// The text of a machine's run.
+/// The text of a run on the usual machine.
 fn machine_answer<'r>(alloc: Global, machine: &mut Machine) -> Answer<'r>
+    requires { IsUsual machine.old.timing }
     ensures no_read { FailedToRead result → ⊥ }
     ensures verdict { (IsMemory result → ⊥) → verdict_of result ≡
         run_verdict (delayed_record (experiment_of machine.old)) }
@@ -87,12 +91,12 @@ fn machine_answer<'r>(alloc: Global, machine: &mut Machine) -> Answer<'r>
     Ok(printed_run(ending, text))
 }
 
-/// The text of a delayed run. Fails only if it is out of memory.
+/// The text of a delayed run on the usual machine. Fails only if it is out of memory.
 fn delayed_answer<'r>(alloc: Global, subject: &Subject, choice: Choice) -> Answer<'r>
     requires { IsChoice choice }
     ensures no_read { FailedToRead result → ⊥ }
     ensures verdict { (IsMemory result → ⊥) → verdict_of result ≡
-        run_verdict (delayed_record (experiment_on subject.now choice)) }
+        run_verdict (delayed_record (experiment_alone subject.now choice)) }
 {
     let mut machine = Machine::new(
         alloc,
@@ -135,12 +139,12 @@ fn short_answer<'r>(alloc: Global, short: &mut Short) -> Answer<'r>
     Ok(printed_run(ending, text))
 }
 
-/// The text of a shortened run. Fails only if it is out of memory.
+/// The text of a shortened run on the usual machine. Fails only if it is out of memory.
 fn shortened_answer<'r>(alloc: Global, subject: &Subject, choice: Choice) -> Answer<'r>
     requires { IsChoice choice }
     ensures no_read { FailedToRead result → ⊥ }
     ensures verdict { (IsMemory result → ⊥) → verdict_of result ≡
-        really_verdict (shortened_record (experiment_on subject.now choice)) }
+        really_verdict (shortened_record (experiment_alone subject.now choice)) }
 {
     let mut short = Short::new(
         alloc,
@@ -156,13 +160,13 @@ fn shortened_answer<'r>(alloc: Global, subject: &Subject, choice: Choice) -> Ans
     answer
 }
 
-/// The text of a run on a machine. Fails only if it is out of memory.
+/// The text of a run of this kind on the usual machine. Fails only if it is out of memory.
 #[tactic(auto, unfolding(crate::specs::Kinds::printed_of))]
 pub fn run_answer<'r>(alloc: Global, kind: Kind, subject: &Subject, choice: Choice) -> Answer<'r>
     requires { IsChoice choice }
     ensures no_read { FailedToRead result → ⊥ }
     ensures verdict { (IsMemory result → ⊥) → verdict_of result ≡
-        printed_of kind (experiment_on subject.now choice) }
+        printed_of kind (experiment_alone subject.now choice) }
 {
     match kind {
         Kind::Delayed => delayed_answer(alloc, subject, choice),

@@ -38,6 +38,7 @@ use run_subject::Subject;
 use rv_asm::assemble;
 use std::alloc::{AllocError, Global};
 use std::thread::Threads;
+use timing_model::Timing;
 use work_gen::{Generated, source};
 
 /// The name of the source in the lines of its program.
@@ -140,6 +141,7 @@ fn trial_summaries<'r, R: Threads + Sync, G: Gate>(
         image: &program.image,
         index: &program.index,
         points: &points,
+        timing: Timing::usual(),
         input: &[],
     };
     let summaries = run_plan(rt, alloc, &subject, &plan, BUDGET, workers, gate)?;

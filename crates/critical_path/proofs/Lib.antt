@@ -6,4 +6,5 @@ pub mod Turned
 mod Rows
 pub mod Begun
 pub mod Walking
+pub mod Usual
 pub mod Froms

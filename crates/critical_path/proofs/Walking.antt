@@ -6,19 +6,18 @@ use Rattle.std.specs.declared.alloc.AllocError.{AllocError}
 use Rattle.coz_types.specs.declared.TheConstants.{HARTS}
 use Rattle.coz_types.specs.declared.ending.Ending.{Ending}
 use Rattle.coz_types.specs.Image.{ImageParts}
-use Rattle.line_index.specs.Index.{position_at}
-use Rattle.progress_points.specs.Points.{point_of}
+use Rattle.line_index.specs.Index.{Index}
 use Rattle.hart_schedule.specs.Keys.{key_of, IsLeast}
 use Rattle.machines.specs.Places.{is_among}
 use Rattle.machines.specs.Guest.{Experiment, Retirement, IsLater, IsLawful, enough, started_harts}
 use Rattle.machines.specs.Shortened.{Shortened, Turn, shortened}
 use Rattle.machines.specs.Records.{NetRecord, net_record_of, shortened_record}
 use Rattle.guest_memory.specs.declared.Layout.{Layout}
-use Rattle.guest_calls.specs.Calls.{retirement}
-use Rattle.guest_calls.specs.Guest.{Guest, pc_of, is_sleeping, with_wake, first_guest}
-use Rattle.guest_calls.specs.Orderly.{IsOrderly}
-use Rattle.guest_calls.specs.Retire.{retire}
-use Rattle.guest_calls.proofs.Law.{running_awake}
+use Rattle.timing_model.specs.declared.timing.Timing.{Timing}
+use Rattle.timed_guest.specs.Guest.{Timed, pc_of, is_sleeping, with_wake, first_guest}
+use Rattle.timed_guest.specs.Orderly.{IsOrderly}
+use Rattle.timed_guest.specs.Retire.{retire, retirement}
+use Rattle.timed_guest.proofs.Law.{running_awake}
 use Rattle.run_engine.specs.declared.choice.Setting.{Setting}
 use Rattle.run_engine.specs.declared.engine.Engine.{Engine}
 use Rattle.run_engine.specs.declared.engine.Event as moves
@@ -28,10 +27,10 @@ use Rattle.run_engine.specs.declared.engine.Event.TheVariants.{Woke, Retired}
 use Rattle.run_engine.specs.Advance.{IsAdvance}
 use Rattle.run_engine.specs.Begin.{started_by}
 use Rattle.run_engine.specs.Engine.{events_of, IsEngineOf, IsFirst, IsSteady}
-use Rattle.run_engine.specs.Run.{IsChoice, experiment, experiment_in}
+use Rattle.run_engine.specs.Run.{IsSetting, experiment, timed_experiment, experiment_in}
 use Rattle.run_engine.specs.Visits.{Visits}
 use Rattle.run_engine.proofs.Keys.{has_place, next_is}
-use Rattle.run_engine.proofs.Law.{lawful_run, reached_next, reached_woken, steady, events_below, ended_now, within_enough, recorded_now}
+use Rattle.run_engine.proofs.Law.{lawful_in, reached_next, reached_woken, steady, events_below, ended_now, within_enough, recorded_now}
 use Rattle.path_chains.specs.declared.TheConstants.{MAX_EVENTS}
 use Rattle.path_causes.specs.declared.cause.Cause.{Cause}
 use Rattle.path_chains.specs.declared.event.Event.{Event}
@@ -40,7 +39,7 @@ use Rattle.path_chains.specs.Path.{event_at, last_of, Linked}
 use Rattle.path_causes.specs.Causes.{no_cause, cause_at, woken_with, turned, at_rest, after_own}
 use Rattle.critical_path.specs.Events.{Traced, AreBefores, AreFroms, retirements_of, work, untraced, traced}
 use Rattle.critical_path.specs.Events.{events_of as whole_events}
-use Rattle.critical_path.specs.Walk.{plain_choice, plain, IsMadeOf, IsTraceOf}
+use Rattle.critical_path.specs.Walk.{plain_choice, plain, plain_on, IsMadeOf, IsTraceOf}
 use Rattle.critical_path.specs.Recording.{IsBegun, ticks_from, CanRecord, IsRecorded}
 use Rattle.critical_path.proofs.Begun.{same_turned_by}
 use Rattle.critical_path.proofs.Froms.{froms_are}
@@ -48,12 +47,12 @@ use Rattle.critical_path.proofs.Recorded.{stands_at, many_events, befores_are, l
 use Rattle.critical_path.proofs.Turned.{IsRetiring, IsWaking, retiring, waking, all_events, first_traced, first_due}
 
 module _ (image : ImageParts) (input : List ℕ) (setting : Setting) where
-  abbrev pub x : Experiment Guest
+  abbrev pub x : Experiment Timed
   x = experiment_in image input setting
 
   -- so far, beside the engine
   pub record IsWalked (engine : Engine) (causes : List Cause) (events : List Event) : Type 0 where
-    pub valid : IsChoice setting.choice
+    pub valid : IsSetting setting
     pub few : setting.choice.budget ≤ MAX_EVENTS
     pub reached : IsEngineOf x engine
     pub room : length causes ≡ HARTS
@@ -62,34 +61,34 @@ module _ (image : ImageParts) (input : List ℕ) (setting : Setting) where
 
   module _ (engine : Engine) (causes : List Cause) (events : List Event) (walked : IsWalked engine causes events) (none : engine.ending ≡ None) (new : Engine) where
     abbrev law : IsLawful x IsOrderly
-    law = lawful_run image (position_at setting.index.now) (point_of setting.points.now) input setting.choice walked.valid.speedup
+    law = lawful_in image input setting walked.valid.choice.speedup
 
     abbrev n : ℕ
     n = events_of engine
 
-    abbrev s : Shortened Guest
+    abbrev s : Shortened Timed
     s = shortened x n
 
     abbrev w : Traced
     w = traced x pc_of n
 
     guest_is : s.guest ≡ engine.guest
-    guest_is = ap (λ (o : Shortened Guest). o.guest) walked.reached.reached.state
+    guest_is = ap (λ (o : Shortened Timed). o.guest) walked.reached.reached.state
 
     none_here : s.ending ≡ None
-    none_here = ap (λ (o : Shortened Guest). o.ending) walked.reached.reached.state ∙ none
+    none_here = ap (λ (o : Shortened Timed). o.ending) walked.reached.reached.state ∙ none
 
     many : length events ≡ engine.retired
-    many = ap length walked.events_are ∙ (stands_at x IsOrderly law pc_of n).count ∙ ap (λ (o : Shortened Guest). o.retired) walked.reached.reached.state
+    many = ap length walked.events_are ∙ (stands_at x IsOrderly law pc_of n).count ∙ ap (λ (o : Shortened Timed). o.retired) walked.reached.reached.state
 
     pub reached_after : (moved : moves.Event) → IsAdvance setting engine moved 0 new → IsEngineOf x new
     reached_after (Woke turn) did =
         let same : new.visits ≡ engine.visits = ap (λ (o : Engine). o.visits) did.rest in
-        reached_woken image (position_at setting.index.now) (point_of setting.points.now) input setting.choice walked.valid engine walked.reached new none
-        (did.moved (first_guest image input setting.choice.output_limit setting.choice.layout) _ walked.reached.reached.dues) did.room same (ap (λ (o : Engine). o.retired) did.rest) did.wakes did.few did.within
+        reached_woken image input setting walked.valid engine walked.reached new none
+        (did.moved (first_guest image input setting.choice.output_limit setting.choice.layout setting.timing setting.index.now) _ walked.reached.reached.dues) did.room same (ap (λ (o : Engine). o.retired) did.rest) did.wakes did.few did.within
     reached_after (Retired one) did =
-        reached_next image (position_at setting.index.now) (point_of setting.points.now) input setting.choice walked.valid engine walked.reached new none
-        (did.moved (first_guest image input setting.choice.output_limit setting.choice.layout) _ walked.reached.reached.dues) did.room (ap (λ (vs : Visits). vs.limit) did.visits) did.unfull did.retired did.wakes did.few did.within
+        reached_next image input setting walked.valid engine walked.reached new none
+        (did.moved (first_guest image input setting.choice.output_limit setting.choice.layout setting.timing setting.index.now) _ walked.reached.reached.dues) did.room (ap (λ (vs : Visits). vs.limit) did.visits) did.unfull did.retired did.wakes did.few did.within
 
     count_after : (moved : moves.Event) → IsAdvance setting engine moved 0 new → events_of new ≡ suc n
     count_after (Woke turn) did = omega (arith, ap (λ (o : Engine). o.retired) did.rest, did.wakes)
@@ -109,7 +108,7 @@ module _ (image : ImageParts) (input : List ℕ) (setting : Setting) where
     ticks_then moment ticks k is = ap (λ (o : Option ℕ). unwrap_or o 0 - moment) is ∙ (let rest : (moment + ticks) - moment ≡ ticks = omega arith in rest)
 
     none_after : (moved : moves.Event) → IsAdvance setting engine moved 0 new → new.ending ≡ None → (shortened x (suc n)).ending ≡ None
-    none_after moved did on = ap (λ (m : ℕ). (shortened x m).ending) (sym (count_after moved did)) ∙ ap (λ (o : Shortened Guest). o.ending) (reached_after moved did).reached.state ∙ on
+    none_after moved did on = ap (λ (m : ℕ). (shortened x m).ending) (sym (count_after moved did)) ∙ ap (λ (o : Shortened Timed). o.ending) (reached_after moved did).reached.state ∙ on
 
     traced_after : (moved : moves.Event) → IsAdvance setting engine moved 0 new → traced x pc_of (events_of new) ≡ traced x pc_of (suc n)
     traced_after moved did = ap (traced x pc_of) (count_after moved did)
@@ -124,22 +123,22 @@ module _ (image : ImageParts) (input : List ℕ) (setting : Setting) where
       abbrev t : Turn
       t = record { hart = one.hart.0; due = new.time }
 
-      abbrev r : Retirement Guest
+      abbrev r : Retirement Timed
       r = retirement new.guest one.fate new.started
 
       turn : IsRetiring x IsOrderly law pc_of n t
       turn =
           retiring x IsOrderly law pc_of n t none_here (next_is engine.schedule s.dues one.hart.0 new.time walked.reached.reached.dues did.turn did.first)
-          (ap (λ (g : Guest). is_sleeping g one.hart.0) guest_is ∙ running_awake engine.guest one.hart.0 did.running)
+          (ap (λ (g : Timed). is_sleeping g one.hart.0) guest_is ∙ running_awake engine.guest one.hart.0 did.running)
 
       retires : retire s.guest one.hart.0 new.time ≡ r
-      retires = ap (λ (g : Guest). retire g one.hart.0 new.time) guest_is ∙ sym did.retires
+      retires = ap (λ (g : Timed). retire g one.hart.0 new.time) guest_is ∙ sym did.retires
 
       begun : new.ending ≡ None → (k : ℕ) → is_among k (started_by one.hart.0 one.fate new.started) ≡ true → key_of new.schedule k ≡ Some (new.time + work x pc_of new.guest k)
       begun on k among =
           key_after (Retired one) did k
-          ∙ turn.begun (none_after (Retired one) did on) k (subst (λ (o : Retirement Guest). is_among k (started_harts one.hart.0 o) ≡ true) (sym retires) among)
-          ∙ ap (λ (o : Retirement Guest). Some (new.time + work x pc_of o.guest k)) retires
+          ∙ turn.begun (none_after (Retired one) did on) k (subst (λ (o : Retirement Timed). is_among k (started_harts one.hart.0 o) ≡ true) (sym retires) among)
+          ∙ ap (λ (o : Retirement Timed). Some (new.time + work x pc_of o.guest k)) retires
 
       pub retired_can : CanRecord new (Retired one) causes events
       retired_can =
@@ -149,7 +148,7 @@ module _ (image : ImageParts) (input : List ℕ) (setting : Setting) where
             walked.room,
             here_below one.hart.0 new.time did.turn,
             omega arith,
-            subst (λ (o : Retirement Guest). IsLater new.time o.fate) retires turn.later,
+            subst (λ (o : Retirement Timed). IsLater new.time o.fate) retires turn.later,
             λ on k among. let key = begun on k among in (within_harts k _ key did.room, (due_then _ k key, begun_then new.time (work x pc_of new.guest k) k key)),
           )
 
@@ -164,13 +163,13 @@ module _ (image : ImageParts) (input : List ℕ) (setting : Setting) where
             events_are =
                 followed.0
                 ∙ ap₂ (λ (es : List Event) (e : Event). es ++ e ∷ []) walked.events_are
-                (ap₂ (λ (c : Cause) (a : ℕ). record { hart = record { 0 = one.hart.0 }; address = a; cost = c.cost; slept = c.slept; from = c.from; before = c.before; due = new.time }) (walked.causes_are none one.hart.0 below) (place ∙ ap (λ (g : Guest). pc_of g one.hart.0) (sym guest_is)))
+                (ap₂ (λ (c : Cause) (a : ℕ). record { hart = record { 0 = one.hart.0 }; address = a; cost = c.cost; slept = c.slept; from = c.from; before = c.before; due = new.time }) (walked.causes_are none one.hart.0 below) (place ∙ ap (λ (g : Timed). pc_of g one.hart.0) (sym guest_is)))
                 ∙ ap (λ (o : Traced). o.events) (sym (traced_after (Retired one) did ∙ turn.traced_is));
             causes_are = λ on k lt.
                 followed.1 on k
                 ∙ same_turned_by (is_among k (started_by one.hart.0 one.fate new.started)) (k == one.hart.0) one.fate new.time (length events) (length w.events) (ticks_from new.schedule new.time k) (work x pc_of new.guest k) (cause_at causes k) (w.causes k)
                 (λ e c. at_rest one.fate new.time e (after_own e c)) (λ among. ticks_then new.time (work x pc_of new.guest k) k (begun on k among)) (ap length walked.events_are) (walked.causes_are none k lt)
-                ∙ ap (λ (o : Retirement Guest). turned one.hart.0 o.fate new.time (length w.events) (started_harts one.hart.0 o) (work x pc_of o.guest) k (w.causes k)) (sym retires)
+                ∙ ap (λ (o : Retirement Timed). turned one.hart.0 o.fate new.time (length w.events) (started_harts one.hart.0 o) (work x pc_of o.guest) k (w.causes k)) (sym retires)
                 ∙ ap (λ (o : Traced). o.causes k) (sym (traced_after (Retired one) did ∙ turn.traced_is));
           }
 
@@ -181,7 +180,7 @@ module _ (image : ImageParts) (input : List ℕ) (setting : Setting) where
       wake_turn : IsWaking x IsOrderly law pc_of n at
       wake_turn =
           waking x IsOrderly law pc_of n at none_here (next_is engine.schedule s.dues one.hart.0 one.due walked.reached.reached.dues did.turn did.first)
-          (ap (λ (g : Guest). is_sleeping g one.hart.0) guest_is ∙ did.asleep)
+          (ap (λ (g : Timed). is_sleeping g one.hart.0) guest_is ∙ did.asleep)
 
       key : key_of new.schedule one.hart.0 ≡ Some (one.due + work x pc_of (with_wake one.hart.0 s.guest) one.hart.0)
       key = key_after (Woke one) did one.hart.0 ∙ wake_turn.begun
@@ -189,7 +188,7 @@ module _ (image : ImageParts) (input : List ℕ) (setting : Setting) where
       pub woken_can : CanRecord new (Woke one) causes events
       woken_can =
           let below = here_below one.hart.0 one.due did.turn in
-          let soon = (steady image (position_at setting.index.now) (point_of setting.points.now) input setting.choice walked.valid engine walked.reached none).within one.hart.0 one.due did.turn in
+          let soon = (steady image input setting walked.valid engine walked.reached none).within one.hart.0 one.due did.turn in
           let fits = wake_turn.fits in
           (walked.room, below, rw (walked.causes_are none one.hart.0 below) (omega arith), begun_then one.due (work x pc_of (with_wake one.hart.0 s.guest) one.hart.0) one.hart.0 key)
 
@@ -225,10 +224,10 @@ module _ (image : ImageParts) (input : List ℕ) (setting : Setting) where
     count_on moved did = count_after moved did ∙ sym (add-one n)
 
   -- as a run begins
-  pub first_is : (engine : Engine) (causes : List Cause) (events : List Event) → IsChoice setting.choice → setting.choice.budget ≤ MAX_EVENTS → IsFirst setting image input engine → events ≡ [] → length causes ≡ HARTS
+  pub first_is : (engine : Engine) (causes : List Cause) (events : List Event) → IsSetting setting → setting.choice.budget ≤ MAX_EVENTS → IsFirst setting image input engine → events ≡ [] → length causes ≡ HARTS
       → ((k : ℕ) → cause_at causes k ≡ (if k == 0 then record no_cause { cost = ticks_from engine.schedule 0 0 } else no_cause)) → IsWalked engine causes events
   first_is engine causes events valid few first none room begun =
-      let lawful = lawful_run image (position_at setting.index.now) (point_of setting.points.now) input setting.choice valid.speedup in
+      let lawful = lawful_in image input setting valid.choice.speedup in
       let zero : events_of engine ≡ 0 = omega (arith, first.retired, first.wakes) in
       let is : traced x pc_of (events_of engine) ≡ untraced x pc_of = ap (traced x pc_of) zero ∙ first_traced x IsOrderly lawful pc_of in
       let key : key_of engine.schedule 0 ≡ Some (0 + work x pc_of x.first 0) = first.reached.reached.dues 0 ∙ ap (λ (m : ℕ). get_or (shortened x m).dues 0 None) zero ∙ first_due x IsOrderly lawful pc_of in
@@ -247,33 +246,33 @@ module _ (image : ImageParts) (input : List ℕ) (setting : Setting) where
 
   -- a run that goes on may move
   pub steady_now : (engine : Engine) (causes : List Cause) (events : List Event) → IsWalked engine causes events → engine.ending ≡ None → IsSteady engine
-  steady_now engine causes events walked none = steady image (position_at setting.index.now) (point_of setting.points.now) input setting.choice walked.valid engine walked.reached none
+  steady_now engine causes events walked none = steady image input setting walked.valid engine walked.reached none
 
   pub more_left : (engine : Engine) (causes : List Cause) (events : List Event) → IsWalked engine causes events → engine.ending ≡ None → events_of engine < 2 * setting.choice.budget
-  more_left engine causes events walked none = events_below image (position_at setting.index.now) (point_of setting.points.now) input setting.choice walked.valid engine walked.reached none
+  more_left engine causes events walked none = events_below image input setting walked.valid engine walked.reached none
 
-record_parts : (x : Experiment Guest) → ((shortened_record x).retired ≡ (shortened x (enough x)).retired) × ((shortened_record x).time ≡ (shortened x (enough x)).time)
+record_parts : (x : Experiment Timed) → ((shortened_record x).retired ≡ (shortened x (enough x)).retired) × ((shortened_record x).time ≡ (shortened x (enough x)).time)
 unfolding shortened_record
 record_parts x = (refl, refl)
 
-module _ (image : ImageParts) (input : List ℕ) (setting : Setting) (engine : Engine) (causes : List Cause) (events : List Event) (walked : IsWalked image input setting engine causes events) (a : Ending) (ended : engine.ending ≡ Some a) (trace : Trace) (made : IsMadeOf trace a events engine.guest.output) where
+module _ (image : ImageParts) (input : List ℕ) (setting : Setting) (engine : Engine) (causes : List Cause) (events : List Event) (walked : IsWalked image input setting engine causes events) (a : Ending) (ended : engine.ending ≡ Some a) (trace : Trace) (made : IsMadeOf trace a events engine.guest.guest.output) where
   -- the trace that is made as it ends
-  pub done : IsTraceOf (x image input setting) trace
+  pub done : IsTraceOf (x image input setting) pc_of trace
   done =
-      let run : Experiment Guest = x image input setting in
-      let lawful : IsLawful run IsOrderly = lawful_run image (position_at setting.index.now) (point_of setting.points.now) input setting.choice walked.valid.speedup in
-      let over : (shortened run (events_of engine)).ending ≡ Some a = ended_now image (position_at setting.index.now) (point_of setting.points.now) input setting.choice walked.valid engine walked.reached a ended in
-      let within : events_of engine ≤ enough run = within_enough image (position_at setting.index.now) (point_of setting.points.now) input setting.choice walked.valid engine walked.reached in
-      let kept : net_record_of run (shortened run (events_of engine)) a ≡ shortened_record run = recorded_now image (position_at setting.index.now) (point_of setting.points.now) input setting.choice walked.valid engine walked.reached a ended in
+      let run : Experiment Timed = x image input setting in
+      let lawful : IsLawful run IsOrderly = lawful_in image input setting walked.valid.choice.speedup in
+      let over : (shortened run (events_of engine)).ending ≡ Some a = ended_now image input setting walked.valid engine walked.reached a ended in
+      let within : events_of engine ≤ enough run = within_enough image input setting walked.valid engine walked.reached in
+      let kept : net_record_of run (shortened run (events_of engine)) a ≡ shortened_record run = recorded_now image input setting walked.valid engine walked.reached a ended in
       let are : trace.events ≡ whole_events run pc_of = made.events ∙ walked.events_are ∙ all_events run IsOrderly lawful pc_of (events_of engine) a within over in
       let parts = record_parts run in
       record {
         events = are;
         ending = made.ending ∙ ap (λ (r : NetRecord). r.ending) kept;
-        output = made.output ∙ ap (λ (o : Shortened Guest). o.guest.output) (sym walked.reached.reached.state) ∙ ap (λ (r : NetRecord). r.output) kept;
-        linked = subst Linked (sym are) (linked run IsOrderly lawful pc_of walked.valid.some_budget walked.few);
+        output = made.output ∙ ap (λ (o : Shortened Timed). o.guest.guest.output) (sym walked.reached.reached.state) ∙ ap (λ (r : NetRecord). r.output) kept;
+        linked = subst Linked (sym are) (linked run IsOrderly lawful pc_of walked.valid.choice.some_budget walked.few);
         many = ap length are ∙ many_events run IsOrderly lawful pc_of ∙ sym parts.0;
-        whole = ap (λ (es : List Event). (event_at es (last_of es)).due) are ∙ last_due run IsOrderly lawful pc_of walked.valid.some_budget ∙ sym parts.1;
+        whole = ap (λ (es : List Event). (event_at es (last_of es)).due) are ∙ last_due run IsOrderly lawful pc_of walked.valid.choice.some_budget ∙ sym parts.1;
         befores = subst AreBefores (sym are) (befores_are run IsOrderly lawful pc_of);
         froms = subst (AreFroms (retirements_of run)) (sym are) (froms_are run pc_of);
       }
@@ -284,14 +283,19 @@ pub plain_is : (image : ImageParts) (position point : ℕ → Option ℕ) (input
 plain_is image position point input budget output_limit layout none =
     ap (λ (p : ℕ → Option ℕ). experiment image position p input (plain_choice budget output_limit layout)) (fun_ext none)
 
+-- on a machine a run whose addresses have no point is the plain one
+plain_on_is : (timing : Timing) (image : ImageParts) (index : Index) (point : ℕ → Option ℕ) (input : List ℕ) (budget output_limit : ℕ) (layout : Layout) → ((a : ℕ) → point a ≡ None)
+    → timed_experiment timing image index point input (plain_choice budget output_limit layout) ≡ plain_on timing image index input budget output_limit layout
+plain_on_is timing image index point input budget output_limit layout none =
+    ap (λ (p : ℕ → Option ℕ). timed_experiment timing image index p input (plain_choice budget output_limit layout)) (fun_ext none)
+
 pub traced_done : (r : Result Trace AllocError) (P Q : Trace → Type 0) → ((t : Trace) → P t → Q t) → IfOk r P → IfOk r Q
 traced_done (Ok t) P Q f p = f t p
 traced_done (Err e) P Q f p = p
 
--- so what is known of the trace of a run is known of one with no line selected and no points
-pub plain_traced : (image : ImageParts) (position point : ℕ → Option ℕ) (input : List ℕ) (budget output_limit : ℕ) (layout : Layout) → ((a : ℕ) → point a ≡ None)
-    → (Q : Experiment Guest → Trace → Type 0) → ((run : Experiment Guest) (t : Trace) → IsTraceOf run t → Q run t)
-    → (r : Result Trace AllocError) → IfOk r (IsTraceOf (experiment image position point input (plain_choice budget output_limit layout))) → IfOk r (Q (plain image input budget output_limit layout))
-plain_traced image position point input budget output_limit layout none Q f r is =
-    traced_done r (IsTraceOf (experiment image position point input (plain_choice budget output_limit layout))) (Q (plain image input budget output_limit layout))
-    (λ t of. f (plain image input budget output_limit layout) t (subst (λ (run : Experiment Guest). IsTraceOf run t) (plain_is image position point input budget output_limit layout none) of)) is
+-- so the trace of a run with no line selected and no points is that of the plain one
+pub plain_traced : (timing : Timing) (image : ImageParts) (index : Index) (point : ℕ → Option ℕ) (input : List ℕ) (budget output_limit : ℕ) (layout : Layout) → ((a : ℕ) → point a ≡ None)
+    → (r : Result Trace AllocError) → IfOk r (IsTraceOf (timed_experiment timing image index point input (plain_choice budget output_limit layout)) pc_of)
+    → IfOk r (IsTraceOf (plain_on timing image index input budget output_limit layout) pc_of)
+plain_traced timing image index point input budget output_limit layout none r is =
+    subst (λ (run : Experiment Timed). IfOk r (IsTraceOf run pc_of)) (plain_on_is timing image index point input budget output_limit layout none) is

@@ -1,3 +1,4 @@
 pub mod Events
 pub mod Recording
 pub mod Walk
+pub mod Laws

@@ -1,4 +1,5 @@
--- The run whose events are walked: no line is selected, and there are no progress points.
+-- The run whose events are walked: no line is selected, and there are no progress points. `plain` is
+-- the run of the guest alone, and `plain_on` that on a machine of the timing model.
 use Rattle.std.specs.Prelude.{◌≡◌, ℕ, List, length, None}
 use Rattle.coz_types.specs.declared.ending.Ending.{Ending}
 use Rattle.coz_types.specs.declared.TheConstants.{MAX_VISITS}
@@ -6,12 +7,15 @@ use Rattle.coz_types.specs.Image.{ImageParts}
 use Rattle.machines.specs.Guest.{Experiment}
 use Rattle.machines.specs.Records.{shortened_record}
 use Rattle.guest_memory.specs.declared.Layout.{Layout}
-use Rattle.guest_calls.specs.Guest.{Guest, pc_of}
+use Rattle.guest_calls.specs.Guest as guests
+use Rattle.line_index.specs.Index.{Index}
+use Rattle.timing_model.specs.declared.timing.Timing.{Timing}
+use Rattle.timed_guest.specs.Guest.{Timed}
 use Rattle.run_engine.specs.declared.choice.Choice.{Choice}
 use Rattle.run_engine.specs.declared.choice.Setting.{Setting}
 use Rattle.run_engine.specs.declared.engine.Engine.{Engine}
 use Rattle.run_engine.specs.Engine.{IsFirst}
-use Rattle.run_engine.specs.Run.{experiment}
+use Rattle.run_engine.specs.Run.{experiment, timed_experiment}
 use Rattle.path_chains.specs.declared.event.Event.{Event}
 use Rattle.path_chains.specs.declared.event.Trace.{Trace}
 use Rattle.path_chains.specs.Path.{event_at, last_of, Linked}
@@ -28,9 +32,14 @@ plain_choice budget output_limit layout = record {
   layout = layout;
 }
 
-abbrev pub plain : ImageParts → List ℕ → ℕ → ℕ → Layout → Experiment Guest
+abbrev pub plain : ImageParts → List ℕ → ℕ → ℕ → Layout → Experiment guests.Guest
 plain image input budget output_limit layout =
     experiment image (λ _. None) (λ _. None) input (plain_choice budget output_limit layout)
+
+-- the same on a machine; the index has the lines of the image
+abbrev pub plain_on : Timing → ImageParts → Index → List ℕ → ℕ → ℕ → Layout → Experiment Timed
+plain_on timing image index input budget output_limit layout =
+    timed_experiment timing image index (λ _. None) input (plain_choice budget output_limit layout)
 
 -- a trace of these events, with this ending and output
 pub record IsMadeOf (trace : Trace) (end : Ending) (list : List Event)
@@ -39,9 +48,10 @@ pub record IsMadeOf (trace : Trace) (end : Ending) (list : List Event)
   pub ending : trace.ending ≡ end
   pub output : trace.output ≡ bytes
 
--- the trace of a run
-pub record IsTraceOf (x : Experiment Guest) (trace : Trace) : Type 0 where
-  pub events : trace.events ≡ events_of x pc_of
+-- the trace of a run; `place` gives the address of a hart's next instruction
+pub record IsTraceOf {G : Type 0} (x : Experiment G) (place : G → ℕ → ℕ)
+    (trace : Trace) : Type 0 where
+  pub events : trace.events ≡ events_of x place
   pub ending : trace.ending ≡ (shortened_record x).ending
   pub output : trace.output ≡ (shortened_record x).output
   pub linked : Linked trace.events

@@ -5,4 +5,11 @@
 mod recording;
 mod walked;
 
-pub use walked::walk;
+ghost use Rattle.critical_path.specs.Laws.{UsualEventsAreAlone};
+
+pub use walked::{walk, walk_on};
+
+/// On a usual machine the events of a run are those of the guest alone.
+pub fn usual_events_are_alone()
+    ensures { UsualEventsAreAlone }
+{}

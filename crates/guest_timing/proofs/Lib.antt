@@ -1,1 +1,3 @@
 mod Lawful
+pub mod Machines
+pub mod Usual

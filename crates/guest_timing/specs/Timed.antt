@@ -4,13 +4,14 @@
 -- `machines`, over another guest.
 use Rattle.std.specs.Prelude.{◌≡◌, ℕ, ◌≤◌, List, Option, None}
 use Rattle.coz_types.specs.Image.{ImageParts}
+use Rattle.line_index.specs.Index.{Index, position_at}
 use Rattle.machines.specs.Guest.{Experiment}
 use Rattle.machines.specs.Delayed.{delayed}
 use Rattle.machines.specs.Records.{IsDelayed, IsShortened, net, shortened_record}
 use Rattle.machines.specs.Standing.{delayed_record}
 use Rattle.guest_calls.specs.Guest.{Guest, is_running}
 use Rattle.run_engine.specs.declared.choice.Choice.{Choice}
-use Rattle.run_engine.specs.Run.{IsChoice, experiment, selected_line}
+use Rattle.run_engine.specs.Run.{IsChoice, experiment, timed_experiment, selected_line}
 use Rattle.timing_laws.specs.Noted.{Noted, noting}
 use Rattle.timing_laws.specs.Cores.{Cores, on_cores, count_below, IsTallied}
 use Rattle.timing_model.specs.declared.timing.Timing.{Timing}
@@ -51,6 +52,14 @@ UsualRunsAreTheRuns =
     (input : List ℕ) (choice : Choice) → IsChoice choice
     → HasTheRecords (experiment image position point input choice)
     (timed t image position point input choice)
+
+-- what the engine runs on a machine leaves what these definitions say of it
+abbrev pub MachineRunsAreTimed : Type 0
+MachineRunsAreTimed =
+    (t : Timing) (image : ImageParts) (index : Index) (point : ℕ → Option ℕ)
+    (input : List ℕ) (choice : Choice) → IsChoice choice
+    → HasTheRecords (timed t image (position_at index) point input choice)
+    (timed_experiment t image index point input choice)
 
 -- how many harts run, each with a core or in line for one
 abbrev pub running_harts : Guest → ℕ

@@ -6,7 +6,7 @@
 //! lawful guest, and each of them is a guest around coz's own.
 #![tactic(auto)]
 
-ghost use Rattle.guest_timing.specs.Timed.{TimedRunsKeepTheLaw, UsualRunsAreTheRuns, NoCoreIsIdle};
+ghost use Rattle.guest_timing.specs.Timed.{TimedRunsKeepTheLaw, UsualRunsAreTheRuns, MachineRunsAreTimed, NoCoreIsIdle};
 
 /// On each machine of the timing model the net part of what the delayed run leaves is what the
 /// shortened run leaves.
@@ -18,6 +18,12 @@ pub fn timed_runs_keep_the_law()
 /// a run leaves what it leaves in `coz profile`.
 pub fn usual_runs_are_the_runs()
     ensures { UsualRunsAreTheRuns }
+{}
+
+/// A run of the engine on a machine leaves what the run of the guest with the machine's costs, with
+/// notes, on cores leaves.
+pub fn machine_runs_are_timed()
+    ensures { MachineRunsAreTimed }
 {}
 
 /// No core is idle while a hart stands in line for one.

@@ -3,6 +3,7 @@ use Rattle.std.proofs.Common.{◌≡◌, ℕ, List, [], Option, Ok, Err, inl}
 use Rattle.line_index.specs.Lines.{Line}
 use Rattle.line_index.specs.Listed.{lines_in, position_in}
 use Rattle.machines.specs.Standing.{delayed_record}
+use Rattle.guest_calls.specs.Guest.{Guest}
 use Rattle.coz_words.specs.declared.request.Request.{Request}
 use Rattle.program_load.specs.Selection.{lines_named}
 use Rattle.run_inputs.specs.Experiment.{Runs, experiment_by_table}
@@ -13,7 +14,7 @@ use Rattle.hot_cli.specs.declared.asked.HotRequest.{HotRequest}
 use Rattle.hot_cli.specs.Answer.{Answer, IsMemory, FailedToRead, Suits, verdict_of}
 use Rattle.hot_cli.specs.Verdict.{Verdict, has_exited, hot_judging, hot_on, hot_printed}
 
-judged_printed : (asked : HotRequest) (runs : counting.Runs) (position : ℕ → Option ℕ) (lines : List Line) → Judged (hot_printed asked runs position lines)
+judged_printed : (asked : HotRequest) (runs : counting.Runs Guest) (position : ℕ → Option ℕ) (lines : List Line) → Judged (hot_printed asked runs position lines)
 unfolding hot_printed
 judged_printed asked runs position lines = inl (low (has_exited (delayed_record (plain_run runs asked.run.budget)).ending))
 

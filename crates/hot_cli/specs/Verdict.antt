@@ -5,20 +5,21 @@ use Rattle.coz_files.specs.Held.{Held}
 use Rattle.line_index.specs.Lines.{Line}
 use Rattle.line_index.specs.Listed.{lines_in, position_in}
 use Rattle.machines.specs.Standing.{delayed_record}
+use Rattle.guest_calls.specs.Guest.{Guest}
 pub use Rattle.command_texts.specs.Printed.{ended_verdict, has_exited}
 pub use Rattle.program_load.specs.Verdict.{Verdict, refusal, program_verdict, named_verdict, points_verdict}
 use Rattle.program_load.specs.Selection.{lines_named}
 use Rattle.run_inputs.specs.Experiment.{experiment_by_table}
 pub use Rattle.run_inputs.specs.Verdict.{Judging, bytes_verdict}
-use Rattle.hot_lines.specs.HotRun.{Runs, hot_text, plain_run}
+use Rattle.hot_lines.specs.HotRun.{Runs, hot_text, line_by, plain_run}
 use Rattle.hot_cli.specs.declared.asked.HotRequest.{HotRequest}
 use Rattle.hot_cli.specs.Words.{hot_request}
 
 -- of a run that counted, and at most a given number of its lines
-unfoldable pub hot_printed : HotRequest → Runs → (ℕ → Option ℕ) → List Line → Verdict
+unfoldable pub hot_printed : HotRequest → Runs Guest → (ℕ → Option ℕ) → List Line → Verdict
 hot_printed asked runs position lines =
     ended_verdict (delayed_record (plain_run runs asked.run.budget)).ending
-    (hot_text asked.names asked.top asked.run.budget runs position lines)
+    (hot_text asked.names asked.top asked.run.budget runs (line_by position) lines)
 
 -- of a program's runs, where each address has the position of its line among these
 abbrev pub hot_judging : HotRequest → (ℕ → Option ℕ) → Judging

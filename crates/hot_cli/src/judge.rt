@@ -17,6 +17,7 @@ use program_load::{Fault, Program, bytes_of, progress_points, read_program};
 use run_inputs::read_inputs;
 use run_subject::Subject;
 use std::alloc::Global;
+use timing_model::Timing;
 
 /// The run of a program that a request asks for, if the program has the lines that are named.
 fn found_run<'r>(
@@ -39,6 +40,7 @@ fn found_run<'r>(
         image: &program.image,
         index: &program.index,
         points: &points,
+        timing: Timing::usual(),
         input,
     };
     let found = hot_run(alloc, &subject, asked.run.budget, asked.top)?;

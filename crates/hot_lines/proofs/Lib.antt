@@ -1,4 +1,5 @@
 mod Costs
 mod Leaving
 mod Ranking
+pub mod Usual
 mod Visits

@@ -13,11 +13,11 @@ use Rattle.line_index.specs.Index.{Index, position_at}
 use Rattle.line_index.specs.Lines.{Line}
 use Rattle.progress_points.specs.Points.{Points, point_of}
 use Rattle.guest_calls.specs.Guest.{Guest, pc_of}
+use Rattle.timed_guest.specs.Guest.{Timed}
 use Rattle.run_engine.specs.declared.choice.Choice.{Choice}
 use Rattle.run_engine.specs.Choices.{choice_of}
 use Rattle.run_engine.specs.Run.{experiment}
 use Rattle.run_engine.specs.Seen.{Seen, experiment_of}
-use Rattle.run_subject.specs.declared.Subject.{Subject}
 use Rattle.run_counts.specs.Beginnings.{Beginning, begun, cost_among}
 use Rattle.run_counts.specs.Counts.{is_on, place_in}
 use Rattle.counted_run.specs.CountedRun.{selecting_line, on_line, on_none}
@@ -29,66 +29,69 @@ use Rattle.hot_lines.specs.declared.left.HotRun.{HotRun}
 -- ---- the run
 
 -- the experiments of a program, by what is chosen
-abbrev pub Runs : Type 0
-Runs = Choice → Experiment Guest
+abbrev pub Runs : Type 0 → Type 0
+Runs G = Choice → Experiment G
 
-abbrev pub runs_of : ImageParts → Index → Points → List ℕ → Runs
+-- of the guest alone
+abbrev pub runs_of : ImageParts → Index → Points → List ℕ → Runs Guest
 runs_of image index points input choice =
     experiment image (position_at index) (point_of points) input choice
 
-abbrev pub runs_on : Subject → Runs
-runs_on s = runs_of s.image.now s.index.now s.points.now s.input.now
+-- the line of the address of a hart's next instruction, if `position` gives that of each address
+abbrev pub line_by : (ℕ → Option ℕ) → Guest → ℕ → Option ℕ
+line_by position g h = position (pc_of g h)
 
 -- with no line selected
-abbrev pub plain_run : Runs → ℕ → Experiment Guest
+abbrev pub plain_run : {G : Type 0} → Runs G → ℕ → Experiment G
 plain_run runs budget = runs (choice_of None 0 budget)
 
 -- what a whole run begins
-abbrev pub begun_in : Experiment Guest → List (Beginning Guest)
+abbrev pub begun_in : {G : Type 0} → Experiment G → List (Beginning G)
 begun_in x = begun x (events (standing x (enough x)))
 
--- ---- what its lines cost
+-- ---- what its lines cost: `place` gives the position of the line that an instruction counts for
 
 -- the work of a test's instructions that the run begins
-abbrev pub cost_of : Runs → ℕ → (Guest → ℕ → Bool) → ℕ
+abbrev pub cost_of : {G : Type 0} → Runs G → ℕ → (G → ℕ → Bool) → ℕ
 cost_of runs budget test =
     let x = plain_run runs budget in cost_among x test (begun_in x)
 
--- of the line at a position, if `position` gives each address its line's position
-abbrev pub cost_on : Runs → (ℕ → Option ℕ) → ℕ → ℕ → ℕ
-cost_on runs position budget k = cost_of runs budget (λ g h. is_on k (position (pc_of g h)))
+-- of the line at a position
+abbrev pub cost_on : {G : Type 0} → Runs G → (G → ℕ → Option ℕ) → ℕ → ℕ → ℕ
+cost_on runs place budget k = cost_of runs budget (λ g h. is_on k (place g h))
 
--- of code that has none of this many lines
-abbrev pub none_of : Runs → (ℕ → Option ℕ) → ℕ → ℕ → ℕ
-none_of runs position budget count =
-    cost_of runs budget (λ g h. is_none (place_in count (position (pc_of g h))))
+-- of code that counts for none of this many lines
+abbrev pub none_of : {G : Type 0} → Runs G → (G → ℕ → Option ℕ) → ℕ → ℕ → ℕ
+none_of runs place budget count =
+    cost_of runs budget (λ g h. is_none (place_in count (place g h)))
 
 -- all work
-abbrev pub all_of : Runs → ℕ → ℕ
+abbrev pub all_of : {G : Type 0} → Runs G → ℕ → ℕ
 all_of runs budget = cost_of runs budget (λ g h. true)
 
 -- a line starts as often as in the run that selects it at speedup 0
-abbrev pub line_in : Runs → (ℕ → Option ℕ) → ℕ → ℕ → HotLine
-line_in runs position budget k = record {
+abbrev pub line_in : {G : Type 0} → Runs G → (G → ℕ → Option ℕ) → ℕ → ℕ → HotLine
+line_in runs place budget k = record {
   line = k;
   starts = (delayed_record (runs (choice_of (Some k) 0 budget))).starts;
-  cost = cost_on runs position budget k;
+  cost = cost_on runs place budget k;
 }
 
 -- the lines that start, of this many, by falling cost and then in their order
-abbrev pub lines_in : Runs → (ℕ → Option ℕ) → ℕ → ℕ → List HotLine
-lines_in runs position budget count =
-    rank (filter has_started (map (line_in runs position budget) (range_with_len 0 count)))
+abbrev pub lines_in : {G : Type 0} → Runs G → (G → ℕ → Option ℕ) → ℕ → ℕ → List HotLine
+lines_in runs place budget count =
+    rank (filter has_started (map (line_in runs place budget) (range_with_len 0 count)))
 
 -- ---- the text
 
 -- the labels of some lines, or the visits of a run and a line for each
-unfoldable pub hot_text : Bool → ℕ → ℕ → Runs → (ℕ → Option ℕ) → List Line → Text
-hot_text names top budget runs position lines =
-    let hot = take top (lines_in runs position budget (length lines)) in
+unfoldable pub hot_text : {G : Type 0} → Bool → ℕ → ℕ → Runs G → (G → ℕ → Option ℕ) → List Line
+    → Text
+hot_text names top budget runs place lines =
+    let hot = take top (lines_in runs place budget (length lines)) in
     if names then names_text lines hot
     else net_visits_text (net (delayed_record (plain_run runs budget))).visits
-    ++ lines_text lines hot (none_of runs position budget (length lines)) (all_of runs budget)
+    ++ lines_text lines hot (none_of runs place budget (length lines)) (all_of runs budget)
 
 abbrev pub hot_written : Bool → List Line → HotRun → Text
 hot_written names lines run =
@@ -97,27 +100,27 @@ hot_written names lines run =
 
 -- ---- the same, as the run that counts is seen
 
-abbrev pub begun_seen : Seen (Delayed Guest) → List (Beginning Guest)
+abbrev pub begun_seen : Seen (Delayed Timed) → List (Beginning Timed)
 begun_seen seen = begun (experiment_of seen) (events seen.state)
 
-abbrev pub cost_seen : Seen (Delayed Guest) → ℕ → ℕ
-cost_seen seen k = cost_among (experiment_of seen) (on_line seen.index k) (begun_seen seen)
+abbrev pub cost_seen : Seen (Delayed Timed) → ℕ → ℕ
+cost_seen seen k = cost_among (experiment_of seen) (on_line k) (begun_seen seen)
 
-abbrev pub line_seen : Seen (Delayed Guest) → ℕ → HotLine
+abbrev pub line_seen : Seen (Delayed Timed) → ℕ → HotLine
 line_seen seen k = record {
   line = k;
   starts = (delayed_record (experiment_of (selecting_line (record { 0 = k }) 0 seen))).starts;
   cost = cost_seen seen k;
 }
 
-abbrev pub none_seen : Seen (Delayed Guest) → ℕ
-none_seen seen = cost_among (experiment_of seen) (on_none seen.index) (begun_seen seen)
+abbrev pub none_seen : Seen (Delayed Timed) → ℕ
+none_seen seen = cost_among (experiment_of seen) (on_none (length seen.index.lines)) (begun_seen seen)
 
-abbrev pub all_seen : Seen (Delayed Guest) → ℕ
+abbrev pub all_seen : Seen (Delayed Timed) → ℕ
 all_seen seen = cost_among (experiment_of seen) (λ g h. true) (begun_seen seen)
 
 -- a run that has ended so leaves this, of this many lines
-pub record IsLeftBy (seen : Seen (Delayed Guest)) (ending : Ending) (count top : ℕ)
+pub record IsLeftBy (seen : Seen (Delayed Timed)) (ending : Ending) (count top : ℕ)
     (run : HotRun) : Type 0 where
   pub ending_is : run.ending ≡ ending
   pub visits_are : map net_of run.visits ≡ map net_visit seen.state.visits

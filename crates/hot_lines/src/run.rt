@@ -2,13 +2,15 @@
 ghost use Rattle.std.specs.Prelude.{◌≡◌, ◌≤◌, ◌+◌, ℕ, Bool, map, sum, take, length, All, IfOk, IsSome, Some};
 ghost use Rattle.std.specs.List.{filter, range_with_len};
 ghost use Rattle.coz_types.specs.declared.TheConstants.{MAX_BUDGET};
-ghost use Rattle.line_index.specs.Index.{position_at};
 ghost use Rattle.machines.specs.KeptVisits.{net_of};
 ghost use Rattle.machines.specs.Records.{net_visit};
 ghost use Rattle.machines.specs.Standing.{delayed_record};
 ghost use Rattle.hot_lines.specs.declared.lines.HotLine.{HotLine};
 ghost use Rattle.hot_lines.specs.Lines.{has_started, rank};
-ghost use Rattle.hot_lines.specs.HotRun.{IsLeftBy, all_seen, cost_on, hot_text, hot_written, line_seen, none_seen, plain_run, runs_on, all_of, none_of};
+ghost use Rattle.hot_lines.specs.HotRun.{IsLeftBy, all_seen, cost_on, hot_text, hot_written, line_seen, none_seen, plain_run, all_of, none_of};
+ghost use Rattle.run_engine.specs.Run.{IsMachine};
+ghost use Rattle.run_subject.specs.Subjects.{experiment_on};
+ghost use Rattle.timed_guest.specs.Retire.{line_counted};
 
 use crate::left::HotRun;
 use crate::lines::{HotLine, push_started, ranked};
@@ -98,8 +100,9 @@ fn hot_of(
     }
 }
 
-/// Runs a program with no line selected, and returns what that leaves, with the lines that cost
-/// most, at most `top`. Fails only if out of memory.
+/// Runs a program on its machine with no line selected, and returns what that leaves, with the
+/// lines that cost most, at most `top`. A line costs what its instructions take, and on a machine
+/// that charges code without a line also what the line is charged. Fails only if out of memory.
 pub fn hot_run(
     alloc: Global,
     subject: &Subject,
@@ -108,19 +111,19 @@ pub fn hot_run(
 ) -> Result<HotRun, AllocError>
     requires some_budget { 1 ≤ budget }
     requires few { budget ≤ MAX_BUDGET }
+    requires machine { IsMachine subject.now.timing budget }
     ensures ending { IfOk result (λ run. run.ending
-        ≡ (delayed_record (plain_run (runs_on subject.now) budget)).ending) }
+        ≡ (delayed_record (plain_run (experiment_on subject.now) budget)).ending) }
     ensures text { IfOk result (λ run. (names : Bool)
         → hot_written names subject.now.index.now.lines run
-        ≡ hot_text names top budget (runs_on subject.now)
-        (position_at subject.now.index.now) subject.now.index.now.lines) }
-    ensures whole { let runs = runs_on subject.now in
-        let position = position_at subject.now.index.now in
+        ≡ hot_text names top budget (experiment_on subject.now) line_counted
+        subject.now.index.now.lines) }
+    ensures whole { let runs = experiment_on subject.now in
         let count = length subject.now.index.now.lines in
         IfOk result (λ run.
-        (run.none ≡ none_of runs position budget count)
+        (run.none ≡ none_of runs line_counted budget count)
         × (run.all ≡ all_of runs budget)
-        × (sum (map (cost_on runs position budget) (range_with_len 0 count))
+        × (sum (map (cost_on runs line_counted budget) (range_with_len 0 count))
         + run.none ≡ run.all)) }
 {
     let choice = Choice::usual(None, 0, budget);
@@ -129,6 +132,7 @@ pub fn hot_run(
         subject.image,
         subject.index,
         subject.points,
+        subject.timing,
         subject.input,
         choice,
     )?;

@@ -4,3 +4,5 @@ mod Lines
 mod Making
 pub mod PlainRun
 mod Long
+mod Usual
+pub mod Choices

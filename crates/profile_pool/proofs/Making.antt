@@ -3,11 +3,10 @@ use Rattle.std.proofs.Common.{◌≡◌, ◌<◌, ◌≤◌, ◌^◌, ℕ, [], �
 use Rattle.coz_types.specs.declared.LineId.{LineId}
 use Rattle.machines.specs.Delayed.{unbegun}
 use Rattle.machines.specs.Lead.{Before}
-use Rattle.guest_calls.specs.Guest.{Guest}
-use Rattle.line_index.specs.Index.{position_at}
+use Rattle.timed_guest.specs.Guest.{Timed}
 use Rattle.progress_points.specs.Points.{point_of}
 use Rattle.run_engine.specs.declared.choice.Choice.{Choice}
-use Rattle.run_engine.specs.Run.{experiment}
+use Rattle.run_engine.specs.Run.{timed_experiment, IsMachine}
 use Rattle.run_engine.specs.Seen.{Seen, experiment_of}
 use Rattle.virtual_run.specs.Lead.{arguments}
 use Rattle.experiment_plan.specs.declared.experiment.Experiment.{Experiment}
@@ -42,28 +41,30 @@ forked work line speedup lead machine new state are led is =
     ∙ ap (λ (seen : Seen (Unit {0})). with_choice (record seen.choice { speedup = speedup }) (made_for work None 0)) led
 
 -- a lead that stands where it was made
-abbrev pub made_lead : Work → Choice → Seen (Before Guest)
+abbrev pub made_lead : Work → Choice → Seen (Before Timed)
 made_lead work choice = record {
   image = work.subject.image.now;
   index = work.subject.index.now;
   points = work.subject.points.now;
+  timing = work.subject.timing;
   input = work.subject.input.now;
   choice = choice;
   state = record {
-    state = unbegun (experiment work.subject.image.now (position_at work.subject.index.now) (point_of work.subject.points.now) work.subject.input.now choice);
+    state = unbegun (timed_experiment work.subject.timing work.subject.image.now work.subject.index.now (point_of work.subject.points.now) work.subject.input.now choice);
     harts = 0 ∷ [];
   };
 }
 
 pub work_of : (work : Work) (choice : Choice) → All (λ (pair : Experiment). pair.line.0 < length work.subject.index.now.lines) work.plan.now
-    → 1 ≤ work.budget → work.budget ≤ 10 ^ 12 → work.first.now ≡ made_lead work choice → choice ≡ choice_of (Some 0) 0 work.budget
-    → IfSome work.plain.now (IsPlain work.subject.image.now work.subject.index.now work.subject.points.now work.subject.input.now work.budget) → IsWork work
-work_of work choice lines some few led chosen plain =
-    let P : Seen (Before Guest) → Type 0 = λ lead. lead.state ≡ record { state = unbegun (experiment_of lead); harts = 0 ∷ [] } in
+    → 1 ≤ work.budget → work.budget ≤ 10 ^ 12 → IsMachine work.subject.timing work.budget → work.first.now ≡ made_lead work choice → choice ≡ choice_of (Some 0) 0 work.budget
+    → IfSome work.plain.now (IsPlain work.subject work.budget) → IsWork work
+work_of work choice lines some few machine led chosen plain =
+    let P : Seen (Before Timed) → Type 0 = λ lead. lead.state ≡ record { state = unbegun (experiment_of lead); harts = 0 ∷ [] } in
     record {
       lines = lines;
       some_budget = some;
       few = few;
+      machine = machine;
       first = ap parts_made led ∙ ap (λ (c : Choice). parts_made (made_lead work c)) chosen;
       unbegun = subst P (sym led) refl;
       plain = plain;

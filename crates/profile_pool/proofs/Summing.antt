@@ -12,21 +12,21 @@ use Rattle.machines.specs.Delayed.{Delayed}
 use Rattle.machines.specs.Shortened.{NetVisit}
 use Rattle.machines.specs.Records.{Record, net_visit}
 use Rattle.sha2.specs.Sha256.{sha256}
-use Rattle.guest_calls.specs.Guest.{Guest}
+use Rattle.timed_guest.specs.Guest.{Timed}
 use Rattle.machines.specs.KeptVisits.{net_of}
 use Rattle.virtual_run.specs.DelayedRun.{outcome_of}
 use Rattle.machines.specs.KeptVisits.{visit_as}
 use Rattle.run_summary.specs.Summaries.{kept}
 use Rattle.profile_pool.specs.Summaries.{outcome_in, summary_of}
 
-abbrev pub outcome_at : Delayed Guest → Ending → Outcome
+abbrev pub outcome_at : Delayed Timed → Ending → Outcome
 outcome_at d ending = record { ending = ending; time = d.now; delay = d.delay; retired = d.retired; starts = d.starts }
 
 -- the outcome of a state that has ended
-pub outcome_is : (d : Delayed Guest) (ending : Ending) (o : Outcome) → Some o ≡ outcome_of d → d.ending ≡ Some ending → o ≡ outcome_at d ending
+pub outcome_is : (d : Delayed Timed) (ending : Ending) (o : Outcome) → Some o ≡ outcome_of d → d.ending ≡ Some ending → o ≡ outcome_at d ending
 outcome_is d ending o came ended = cc
 
-pub ending_is : (d : Delayed Guest) (o : Outcome) → Some o ≡ outcome_of d → d.ending ≡ Some o.ending
+pub ending_is : (d : Delayed Timed) (o : Outcome) → Some o ≡ outcome_of d → d.ending ≡ Some o.ending
 ending_is d o came = by d.ending came
   where
     by : (ending : Option Ending) → Some o ≡ option_map (λ (e : Ending). outcome_at d e) ending → ending ≡ Some o.ending

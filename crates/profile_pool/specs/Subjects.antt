@@ -1,24 +1,21 @@
--- What is made of a subject: its image, lines, points and input.
-use Rattle.std.specs.Prelude.{ℕ, Bool, List}
+-- The summaries of the runs of a subject.
+use Rattle.std.specs.Prelude.{ℕ, List, [], map, length, get_or, Some}
 use Rattle.coz_types.specs.declared.record.Summary.{Summary}
 use Rattle.experiment_plan.specs.declared.experiment.Experiment.{Experiment}
+use Rattle.line_index.specs.Lines.{label}
+use Rattle.machines.specs.Standing.{delayed_record}
+use Rattle.run_engine.specs.Choices.{choice_of}
 use Rattle.run_subject.specs.declared.Subject.{Subject}
-use Rattle.profile_pool.specs.declared.plain.Plain.{Plain}
-use Rattle.profile_pool.specs.Plain.{IsPlain}
-use Rattle.profile_pool.specs.Summaries.{summaries_of, summary_in}
-use Rattle.profile_pool.specs.Worth.{is_long, is_worth}
+use Rattle.run_subject.specs.Subjects.{experiment_on}
+use Rattle.profile_pool.specs.Summaries.{summary_of}
 
-abbrev pub summary_on : Subject → ℕ → ℕ → ℕ → Summary
-summary_on s = summary_in s.image.now s.index.now s.points.now s.input.now
+-- of the run with the line at this position selected at this speedup
+unfoldable pub summary_on : Subject → ℕ → ℕ → ℕ → Summary
+summary_on s budget line speedup =
+    summary_of (get_or (map label s.index.now.lines) line []) speedup (length s.points.now.lines)
+    (delayed_record (experiment_on s (choice_of (Some line) speedup budget)))
 
+-- of the run of each pair, in the plan's order
 abbrev pub summaries_on : Subject → ℕ → List Experiment → List Summary
-summaries_on s = summaries_of s.image.now s.index.now s.points.now s.input.now
-
-abbrev pub IsPlainOn : Subject → ℕ → Plain → Type 0
-IsPlainOn s = IsPlain s.image.now s.index.now s.points.now s.input.now
-
-abbrev pub is_long_on : Subject → ℕ → Bool
-is_long_on s = is_long s.image.now s.index.now s.points.now s.input.now
-
-abbrev pub is_worth_on : Subject → ℕ → ℕ → Bool
-is_worth_on s = is_worth s.image.now s.index.now s.points.now s.input.now
+summaries_on s budget plan =
+    map (λ (pair : Experiment). summary_on s budget pair.line.0 pair.speedup) plan

@@ -8,10 +8,11 @@ use Rattle.experiment_plan.specs.ByLine.{by_line}
 use Rattle.profile_pool.specs.declared.work.Work.{Work}
 use Rattle.machines.specs.Delayed.{unbegun}
 use Rattle.run_engine.specs.Seen.{Seen, experiment_of}
-use Rattle.profile_pool.specs.Subjects.{IsPlainOn, summary_on}
+use Rattle.run_engine.specs.Run.{IsMachine}
+use Rattle.profile_pool.specs.Subjects.{summary_on}
 use Rattle.profile_pool.specs.Made.{parts_made, made_for}
 use Rattle.profile_pool.specs.declared.plain.Plain.{Plain}
-use Rattle.profile_pool.specs.Plain.{starts_at, starts_in}
+use Rattle.profile_pool.specs.Plain.{starts_at, starts_in, IsPlain}
 
 -- the summary of the run of a pair
 abbrev pub summary_of_pair : Work → Experiment → Summary
@@ -29,10 +30,11 @@ pub record IsWork (work : Work) : Type 0 where
       pair.line.0 < length work.subject.index.now.lines) work.plan.now
   pub some_budget : 1 ≤ work.budget
   pub few : work.budget ≤ MAX_BUDGET
+  pub machine : IsMachine work.subject.timing work.budget
   pub first : parts_made work.first.now ≡ made_for work (Some 0) 0
   pub unbegun : work.first.now.state
       ≡ record { state = unbegun (experiment_of work.first.now); harts = 0 ∷ [] }
-  pub plain : IfSome work.plain.now (IsPlainOn work.subject work.budget)
+  pub plain : IfSome work.plain.now (IsPlain work.subject work.budget)
 
 -- a lead is one of the line at this position, unless that line is known not to start
 abbrev pub IsLed : {State : Type 0} → Work → Seen State → ℕ → Type 0
@@ -43,5 +45,5 @@ IsLed work lead line =
 -- speedup and its starts
 abbrev pub IsTakenFrom : Work → Plain → Experiment → Type 0
 IsTakenFrom work plain pair =
-    IsPlainOn work.subject work.budget plain
+    IsPlain work.subject work.budget plain
     × ((pair.speedup ≡ 0) ⊎ (starts_at plain pair.line.0 ≡ 0))

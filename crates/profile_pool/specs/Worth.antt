@@ -1,14 +1,12 @@
 -- When a profile makes the run with no line selected before the runs of its lines.
-use Rattle.std.specs.Prelude.{ℕ, ◌+◌, ◌/◌, ◌==◌, nat_lt, Bool, false, not, List, None, if◌then◌else◌}
-use Rattle.coz_types.specs.Image.{ImageParts}
+use Rattle.std.specs.Prelude.{ℕ, ◌+◌, ◌/◌, ◌==◌, nat_lt, Bool, false, not, None, if◌then◌else◌}
 use Rattle.coz_types.specs.declared.ending.Ending.{Ending}
 use Rattle.coz_types.specs.declared.ending.Ending.TheVariants.{Exited}
 use Rattle.guest_memory.specs.declared.Layout.{Layout}
-use Rattle.line_index.specs.Index.{Index, position_at}
 use Rattle.machines.specs.Standing.{delayed_record}
-use Rattle.progress_points.specs.Points.{Points, point_of}
 use Rattle.run_engine.specs.Choices.{choice_of}
-use Rattle.run_engine.specs.Run.{experiment}
+use Rattle.run_subject.specs.declared.Subject.{Subject}
+use Rattle.run_subject.specs.Subjects.{experiment_on}
 use Rattle.run_engine.specs.declared.choice.Choice.{Choice}
 use Rattle.profile_pool.specs.declared.worth.TheConstants.{COSTS, SMALL_BRK, SMALL_MAP, SMALL_OUTPUT, SMALL_STACK}
 
@@ -27,10 +25,9 @@ small_choice budget = record (choice_of None 0 budget) {
 }
 
 -- a run in small regions does not exit with code 0 within this many instructions
-unfoldable pub is_long : ImageParts → Index → Points → List ℕ → ℕ → Bool
-is_long image index points input instructions =
-    not (is_success (delayed_record (experiment image (position_at index) (point_of points) input
-    (small_choice instructions))).ending)
+unfoldable pub is_long : Subject → ℕ → Bool
+is_long s instructions =
+    not (is_success (delayed_record (experiment_on s (small_choice instructions))).ending)
 
 -- the instructions of a run which, made once for each of these lines, take more than the machine
 -- for the run with no line selected
@@ -38,8 +35,8 @@ abbrev pub least_worth : ℕ → ℕ
 least_worth lines = COSTS / lines + 1
 
 -- there are two lines or more, and runs may be long and are
-abbrev pub is_worth : ImageParts → Index → Points → List ℕ → ℕ → ℕ → Bool
-is_worth image index points input lines budget =
+abbrev pub is_worth : Subject → ℕ → ℕ → Bool
+is_worth s lines budget =
     if nat_lt lines 2 then false
     else if nat_lt budget (least_worth lines) then false
-    else is_long image index points input (least_worth lines)
+    else is_long s (least_worth lines)

@@ -200,19 +200,21 @@ impl<'a> ClaimWork for Work<'a> {
     /// A lead and a machine of the program. Which line is selected at first doesn't matter.
     fn runner(&self, alloc: Global) -> Result<Runner<'a>, AllocError> {
         let choice = Choice::usual(Some(LineId(0)), 0, self.budget);
-        let lead = Lead::new(
+        let lead = Lead::on(
             alloc,
             self.subject.image,
             self.subject.index,
             self.subject.points,
+            self.subject.timing,
             self.subject.input,
             choice,
         )?;
-        match Machine::new(
+        match Machine::on(
             alloc,
             self.subject.image,
             self.subject.index,
             self.subject.points,
+            self.subject.timing,
             self.subject.input,
             choice,
         ) {

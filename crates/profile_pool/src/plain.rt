@@ -8,8 +8,9 @@ ghost use Rattle.machines.specs.Records.{record_of};
 ghost use Rattle.run_engine.specs.Seen.{experiment_of};
 ghost use Rattle.profile_pool.specs.Summaries.{summary_of};
 ghost use Rattle.run_summary.specs.Summaries.{relabelled};
-ghost use Rattle.profile_pool.specs.Plain.{starts_at, SaysOf};
-ghost use Rattle.profile_pool.specs.Subjects.{IsPlainOn, is_worth_on};
+ghost use Rattle.profile_pool.specs.Plain.{starts_at, IsPlain, SaysOf};
+ghost use Rattle.profile_pool.specs.Worth.{is_worth};
+ghost use Rattle.run_engine.specs.Run.{IsMachine};
 
 use crate::outcomes::ended;
 use crate::worth::is_worth;
@@ -104,7 +105,8 @@ fn plain_in(
 fn plain_run(alloc: Global, subject: &Subject, budget: u64) -> Result<Plain, AllocError>
     requires some_budget { 1 ≤ budget }
     requires few { budget ≤ MAX_BUDGET }
-    ensures { IfOk result (IsPlainOn subject.now budget) }
+    requires machine { IsMachine subject.now.timing budget }
+    ensures { IfOk result (IsPlain subject.now budget) }
 {
     let choice = Choice::usual(None, 0, budget);
     let mut counted = Counted::new(
@@ -112,6 +114,7 @@ fn plain_run(alloc: Global, subject: &Subject, budget: u64) -> Result<Plain, All
         subject.image,
         subject.index,
         subject.points,
+        subject.timing,
         subject.input,
         choice,
     )?;
@@ -132,10 +135,11 @@ pub fn plain_if_worth(
 ) -> Result<Option<Plain>, AllocError>
     requires some_budget { 1 ≤ budget }
     requires few { budget ≤ MAX_BUDGET }
+    requires machine { IsMachine subject.now.timing budget }
     ensures made { IfOk result (λ plain. is_some plain
-        ≡ is_worth_on subject.now lines budget) }
+        ≡ is_worth subject.now lines budget) }
     ensures plain { IfOk result (λ plain.
-        IfSome plain (IsPlainOn subject.now budget)) }
+        IfSome plain (IsPlain subject.now budget)) }
 {
     if !is_worth(alloc, subject, lines, budget)? {
         return Ok(None);

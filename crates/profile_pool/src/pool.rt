@@ -3,7 +3,11 @@ ghost use Rattle.std.specs.Prelude.{◌≡◌, ◌<◌, ◌≤◌, IfOk, IfSome,
 ghost use Rattle.coz_types.specs.declared.TheConstants.{MAX_BUDGET, MAX_WORKERS};
 ghost use Rattle.coz_types.specs.Ranges.{IsSummary};
 ghost use Rattle.experiment_plan.specs.declared.experiment.Experiment.{Experiment};
-ghost use Rattle.profile_pool.specs.Subjects.{IsPlainOn, summaries_on};
+ghost use Rattle.profile_pool.specs.Plain.{IsPlain};
+ghost use Rattle.profile_pool.specs.Subjects.{summaries_on};
+ghost use Rattle.profile_pool.specs.Summaries.{summaries_of};
+ghost use Rattle.run_engine.specs.Run.{IsMachine};
+ghost use Rattle.timing_model.specs.Timing.{IsUsual};
 
 use crate::plain::{Plain, plain_if_worth};
 use crate::work::Work;
@@ -32,21 +36,23 @@ fn run_from<R: Threads + Sync, G: Gate>(
         pair.line.0 < length subject.now.index.now.lines) plan.now }
     requires some_budget { 1 ≤ budget }
     requires few { budget ≤ MAX_BUDGET }
+    requires machine { IsMachine subject.now.timing budget }
     requires some_workers { 1 ≤ workers }
     requires few_workers { workers ≤ MAX_WORKERS }
     requires plain { IfSome plain.now
-        (IsPlainOn subject.now budget) }
+        (IsPlain subject.now budget) }
     ensures summaries { IfOk result (λ summaries.
         summaries.items ≡ summaries_on subject.now budget plan.now) }
     ensures ranges { IfOk result (λ summaries.
         All (IsSummary (length subject.now.points.now.lines)) summaries.items) }
 {
     let choice = Choice::usual(Some(LineId(0)), 0, budget);
-    let lead = Lead::new(
+    let lead = Lead::on(
         alloc,
         subject.image,
         subject.index,
         subject.points,
+        subject.timing,
         subject.input,
         choice,
     )?;
@@ -63,10 +69,8 @@ fn run_from<R: Threads + Sync, G: Gate>(
     summaries
 }
 
-/// The summary of the run of each pair of a plan, in the plan's order, whatever the number
-/// of workers and the gate. It fails only if it is out of memory, and then the other
-/// workers finish their claims.
-pub fn run_plan<R: Threads + Sync, G: Gate>(
+/// The summary of the run of each pair of a plan, on the machine of the subject.
+fn run_lines<R: Threads + Sync, G: Gate>(
     rt: &R,
     alloc: Global,
     subject: &Subject,
@@ -79,6 +83,7 @@ pub fn run_plan<R: Threads + Sync, G: Gate>(
         pair.line.0 < length subject.now.index.now.lines) plan.now }
     requires some_budget { 1 ≤ budget }
     requires few { budget ≤ MAX_BUDGET }
+    requires machine { IsMachine subject.now.timing budget }
     requires some_workers { 1 ≤ workers }
     requires few_workers { workers ≤ MAX_WORKERS }
     ensures summaries { IfOk result (λ summaries.
@@ -97,4 +102,36 @@ pub fn run_plan<R: Threads + Sync, G: Gate>(
     // By one call, since a drop in place is proved part by part.
     drop(plain);
     summaries
+}
+
+/// The summary of the run of each pair of a plan, in the plan's order, whatever the number
+/// of workers and the gate. It fails only if it is out of memory, and then the other
+/// workers finish their claims. On the usual machine the runs are those of the guest alone.
+pub fn run_plan<R: Threads + Sync, G: Gate>(
+    rt: &R,
+    alloc: Global,
+    subject: &Subject,
+    plan: &Plan,
+    budget: u64,
+    workers: u32,
+    gate: &G,
+) -> Result<Vec<Summary>, AllocError>
+    requires lines { All (λ (pair : Experiment).
+        pair.line.0 < length subject.now.index.now.lines) plan.now }
+    requires some_budget { 1 ≤ budget }
+    requires few { budget ≤ MAX_BUDGET }
+    requires machine { IsMachine subject.now.timing budget }
+    requires some_workers { 1 ≤ workers }
+    requires few_workers { workers ≤ MAX_WORKERS }
+    ensures summaries { IfOk result (λ summaries.
+        summaries.items ≡ summaries_on subject.now budget plan.now) }
+    ensures usual { IsUsual subject.now.timing → IfOk result (λ summaries.
+        summaries.items ≡ summaries_of subject.now.image.now subject.now.index.now
+        subject.now.points.now subject.now.input.now budget plan.now) }
+    ensures ranges { IfOk result (λ summaries.
+        All (IsSummary (length subject.now.points.now.lines)) summaries.items) }
+{
+    // The speedups of a plan are known to a proof once its pairs are read.
+    let _ = plan.pairs();
+    run_lines(rt, alloc, subject, plan, budget, workers, gate)
 }

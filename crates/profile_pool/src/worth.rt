@@ -2,9 +2,8 @@
 ghost use Rattle.std.specs.Prelude.{◌≡◌, ◌≤◌, IfOk};
 ghost use Rattle.coz_types.specs.declared.TheConstants.{MAX_BUDGET};
 ghost use Rattle.guest_memory.specs.Regions.{IsLayout};
-ghost use Rattle.run_engine.specs.Run.{IsChoice};
-ghost use Rattle.profile_pool.specs.Subjects.{is_long_on, is_worth_on};
-ghost use Rattle.profile_pool.specs.Worth.{is_success, small, small_choice};
+ghost use Rattle.run_engine.specs.Run.{IsChoice, IsMachine};
+ghost use Rattle.profile_pool.specs.Worth.{is_long, is_success, is_worth, small, small_choice};
 
 use coz_types::Ending;
 use guest_memory::Layout;
@@ -69,15 +68,17 @@ fn is_success(ending: Ending) -> bool
 fn is_long(alloc: Global, subject: &Subject, instructions: u64) -> Result<bool, AllocError>
     requires some { 1 ≤ instructions }
     requires few { instructions ≤ MAX_BUDGET }
+    requires machine { IsMachine subject.now.timing instructions }
     ensures { IfOk result (λ long. long
-        ≡ is_long_on subject.now instructions) }
+        ≡ is_long subject.now instructions) }
 {
     let choice = small_choice(instructions);
-    let mut machine = Machine::new(
+    let mut machine = Machine::on(
         alloc,
         subject.image,
         subject.index,
         subject.points,
+        subject.timing,
         subject.input,
         choice,
     )?;
@@ -96,8 +97,9 @@ pub fn is_worth(
     lines: u32,
     budget: u64,
 ) -> Result<bool, AllocError>
+    requires machine { IsMachine subject.now.timing budget }
     ensures { IfOk result (λ worth. worth
-        ≡ is_worth_on subject.now lines budget) }
+        ≡ is_worth subject.now lines budget) }
 {
     if lines < 2 {
         return Ok(false);

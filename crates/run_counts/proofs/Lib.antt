@@ -4,3 +4,4 @@ mod Examples
 pub mod Adding
 pub mod Within
 pub mod Ended
+pub mod Following

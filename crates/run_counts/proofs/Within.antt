@@ -1,5 +1,5 @@
 -- How large counts are, and that those of the lines are all there are.
-use Rattle.std.proofs.Common.{◌≡◌, ℕ, zero, suc, ◌+◌, ◌*◌, ◌^◌, ◌≤◌, ◌<◌, Bool, true, false, if◌then◌else◌, List, [], ◌∷◌, map, length, set, replicate, refl, sym, ap, ap₂, ◌∙◌, arith, Option, Some, None, ◌⊎◌, inl, inr, take}
+use Rattle.std.proofs.Common.{◌≡◌, ℕ, zero, suc, ◌+◌, ◌≤◌, ◌<◌, Bool, true, false, if◌then◌else◌, List, [], ◌∷◌, map, length, set, replicate, refl, sym, ap, ap₂, ◌∙◌, arith, Option, Some, None, ◌⊎◌, inl, inr, take}
 use Rattle.std.specs.List.{sum_by, sum, range_with_len}
 use Rattle.std.proofs.lemmas.Bool.{cases_lt}
 use Rattle.std.proofs.lemmas.List.{length-set, length-replicate, take_all}
@@ -33,31 +33,48 @@ either_tally P (t ∷ ts) (suc j) new is old zero = old 0
 either_tally P (t ∷ ts) (suc j) new is old (suc k) = either_tally P ts j new is (λ i. old (suc i)) k
 
 -- one more instruction leaves them within what they may be
-pub within_one : (place : Option ℕ) (ticks : ℕ) (c : Counts) → ticks ≤ 2 ^ 12 → IsWithin c → IsWithin (with_one place ticks c)
-within_one None ticks c few w = record {
+pub within_one : (place : Option ℕ) (ticks : ℕ) (c : Counts) → IsWithin c → IsWithin (with_one place ticks c)
+within_one None ticks c w = record {
   starts = λ k. let s = w.starts k in omega arith;
   cost = λ k. let s = w.cost k in omega arith;
   none = let s = w.none in omega arith;
-  all = let s = w.all in omega arith;
 }
-within_one (Some j) ticks c few w =
-    let both : (k : ℕ) → ((tally_at c.lines k).starts ≤ c.begun + 1) × ((tally_at c.lines k).cost ≤ 2 ^ 12 * (c.begun + 1)) = λ k. let s = w.starts k in let t = w.cost k in (omega arith, omega arith) in
-    let is = either_tally (λ (t : Tally). (t.starts ≤ c.begun + 1) × (t.cost ≤ 2 ^ 12 * (c.begun + 1))) c.lines j (with_start ticks (tally_at c.lines j))
+within_one (Some j) ticks c w =
+    let both : (k : ℕ) → ((tally_at c.lines k).starts ≤ c.begun + 1) × ((tally_at c.lines k).cost ≤ c.all + ticks) = λ k. let s = w.starts k in let t = w.cost k in (omega arith, omega arith) in
+    let is = either_tally (λ (t : Tally). (t.starts ≤ c.begun + 1) × (t.cost ≤ c.all + ticks)) c.lines j (with_start ticks (tally_at c.lines j))
     (let s = w.starts j in let t = w.cost j in (omega arith, omega arith)) both in
     record {
       starts = λ k. (is k).0;
       cost = λ k. (is k).1;
       none = let s = w.none in omega arith;
-      all = let s = w.all in omega arith;
     }
 
 pub one_begun : (place : Option ℕ) (ticks : ℕ) (c : Counts) → (with_one place ticks c).begun ≡ c.begun + 1
 one_begun None ticks c = refl
 one_begun (Some j) ticks c = refl
 
+pub one_all : (place : Option ℕ) (ticks : ℕ) (c : Counts) → (with_one place ticks c).all ≡ c.all + ticks
+one_all None ticks c = refl
+one_all (Some j) ticks c = refl
+
 pub one_room : (place : Option ℕ) (ticks : ℕ) (c : Counts) → length (with_one place ticks c).lines ≡ length c.lines
 one_room None ticks c = refl
 one_room (Some j) ticks c = length-set c.lines j (with_start ticks (tally_at c.lines j))
+
+module _ {G : Type 0} (x : Experiment G) where
+  -- the work of those that pass a test is at most that of all
+  pub cost_le : (test : G → ℕ → Bool) (bs : List (Beginning G)) → cost_among x test bs ≤ cost_among x (λ g h. true) bs
+  cost_le test [] = omega arith
+  cost_le test (b ∷ bs) =
+      let rest = cost_le test bs in
+      let some = sum_by-cons (cost_if x test) b bs in
+      let all = sum_by-cons (cost_if x (λ g h. true)) b bs in
+      let one : cost_if x test b ≤ cost x b.guest b.hart = go (test b.guest b.hart) in
+      omega arith
+    where
+      go : (t : Bool) → (if t then cost x b.guest b.hart else 0) ≤ cost x b.guest b.hart
+      go true = omega arith
+      go false = omega arith
 
 module _ {G : Type 0} (x : Experiment G) (place : G → ℕ → Option ℕ) (count : ℕ) where
   -- nothing is counted before the first instruction
@@ -72,35 +89,22 @@ module _ {G : Type 0} (x : Experiment G) (place : G → ℕ → Option ℕ) (cou
     whole = let none = none_cost count in omega arith;
   }
 
-  -- the work of some instructions is at most 4,096 ticks for each
-  cost_below : ((g : G) (h : ℕ) → cost x g h ≤ 2 ^ 12) → (test : G → ℕ → Bool) (bs : List (Beginning G)) → cost_among x test bs ≤ 2 ^ 12 * length bs
-  cost_below small test [] = omega arith
-  cost_below small test (b ∷ bs) =
-      let rest = cost_below small test bs in
-      let sum = sum_by-cons (cost_if x test) b bs in
-      let one : cost_if x test b ≤ 2 ^ 12 = go (test b.guest b.hart) in
-      omega arith
-    where
-      go : (t : Bool) → (if t then cost x b.guest b.hart else 0) ≤ 2 ^ 12
-      go true = small b.guest b.hart
-      go false = omega arith
-
   -- the counts of some instructions are within what they may be
-  pub within : ((g : G) (h : ℕ) → cost x g h ≤ 2 ^ 12) → (bs : List (Beginning G)) (c : Counts) → AreCounts x place count bs c → IsWithin c
-  within small bs c are = record {
+  pub within : (bs : List (Beginning G)) (c : Counts) → AreCounts x place count bs c → IsWithin c
+  within bs c are = record {
     starts = λ k. (both k (cases_lt k count)).0;
     cost = λ k. (both k (cases_lt k count)).1;
-    none = let is = are.none in let n = are.begun_are in let few = cost_below small (on_none x place count) bs in omega arith;
-    all = let is = are.all in let n = are.begun_are in let few = cost_below small (λ g h. true) bs in omega arith;
+    none = let is = are.none in let a = are.all in let few = cost_le x (on_none x place count) bs in omega arith;
   }
     where
-      both : (k : ℕ) → (k < count) ⊎ (count ≤ k) → ((tally_at c.lines k).starts ≤ c.begun) × ((tally_at c.lines k).cost ≤ 2 ^ 12 * c.begun)
+      both : (k : ℕ) → (k < count) ⊎ (count ≤ k) → ((tally_at c.lines k).starts ≤ c.begun) × ((tally_at c.lines k).cost ≤ c.all)
       both k (inl below) =
           let n = are.begun_are in
+          let a = are.all in
           let s = are.starts k below in
           let t = are.cost k below in
           let few = count_by-le-length (λ (b : Beginning G). on_line x place k b.guest b.hart) bs in
-          let cheap = cost_below small (on_line x place k) bs in
+          let cheap = cost_le x (on_line x place k) bs in
           (omega arith, omega arith)
       both k (inr out) =
           let none = beyond c.lines k (let room = are.room in omega arith) in

@@ -1,5 +1,5 @@
 -- What is counted, by line, of the instructions that a run begins.
-use Rattle.std.specs.Prelude.{◌≡◌, ℕ, ◌+◌, ◌*◌, ◌^◌, ◌≤◌, ◌<◌, Bool, true, false, ◌==◌, List, length, replicate, slice_index_or, slice_set, if◌then◌else◌, nat_lt, Option, Some, None, is_none}
+use Rattle.std.specs.Prelude.{◌≡◌, ℕ, ◌+◌, ◌≤◌, ◌<◌, Bool, true, false, ◌==◌, List, length, replicate, slice_index_or, slice_set, if◌then◌else◌, nat_lt, Option, Some, None, is_none}
 use Rattle.std.specs.List.{sum_by}
 use Rattle.machines.specs.Guest.{Experiment, cost}
 use Rattle.run_counts.specs.Beginnings.{Beginning, starts_among, cost_among}
@@ -53,12 +53,11 @@ with_one (Some k) cost c = record c {
   begun = c.begun + 1;
 }
 
--- no count is over what this many instructions of at most 4,096 ticks can make it
+-- no line has more than all lines together
 pub record IsWithin (c : Counts) : Type 0 where
   pub starts : (k : ℕ) → (tally_at c.lines k).starts ≤ c.begun
-  pub cost : (k : ℕ) → (tally_at c.lines k).cost ≤ 2 ^ 12 * c.begun
-  pub none : c.none ≤ 2 ^ 12 * c.begun
-  pub all : c.all ≤ 2 ^ 12 * c.begun
+  pub cost : (k : ℕ) → (tally_at c.lines k).cost ≤ c.all
+  pub none : c.none ≤ c.all
 
 -- the position is this one
 abbrev pub is_on : ℕ → Option ℕ → Bool

@@ -1,5 +1,5 @@
 //! What was begun of each line.
-ghost use Rattle.std.specs.Prelude.{◌≡◌, ◌^◌, ◌≤◌, ◌<◌, length, option_map, IfOk, IfSome};
+ghost use Rattle.std.specs.Prelude.{◌≡◌, ◌+◌, ◌^◌, ◌≤◌, ◌<◌, length, option_map, IfOk, IfSome};
 ghost use Rattle.run_counts.specs.Counts.{counts_of, no_counts, place_in, with_one, IsWithin};
 
 use coz_types::{LineId, Tick};
@@ -61,7 +61,7 @@ fn place_of(line: Option<LineId>, count: usize) -> Option<usize>
 /// Adds an instruction to the tally at a position, or to no tally.
 fn add_at(tallies: &mut Tallies, position: Option<usize>, cost: Tick)
     requires position { IfSome position (λ k. k < length tallies.old.lines.items) }
-    requires small { cost ≤ 2 ^ 12 }
+    requires room { tallies.old.all + cost < 2 ^ 64 }
     requires within { IsWithin (counts_of tallies.old) }
     requires few { tallies.old.begun < 2 ^ 50 }
     ensures { counts_of tallies.new ≡ with_one position cost (counts_of tallies.old) }
@@ -80,9 +80,10 @@ fn add_at(tallies: &mut Tallies, position: Option<usize>, cost: Tick)
     }
 }
 
-/// Adds an instruction of a line, or of no line, which takes `cost` ticks, at most 4,096.
+/// Adds an instruction of a line, or of no line, which takes `cost` ticks. All work together is to
+/// stay below 2^64 ticks.
 pub fn add(tallies: &mut Tallies, line: Option<LineId>, cost: Tick)
-    requires small { cost ≤ 2 ^ 12 }
+    requires room { tallies.old.all + cost < 2 ^ 64 }
     requires within { IsWithin (counts_of tallies.old) }
     requires few { tallies.old.begun < 2 ^ 50 }
     ensures { counts_of tallies.new

@@ -1,14 +1,15 @@
 -- The beginning of the harts that a retirement started.
-use Rattle.std.proofs.Common.{◌≡◌, ◌≢◌, ℕ, ◌+◌, ◌-◌, ◌*◌, ◌≤◌, ◌<◌, Bool, true, false, if◌then◌else◌, ◌==◌, List, [], ◌∷◌, ◌++◌, length, filter, refl, sym, ap, subst, ◌∙◌, arith, eq-eqb, ne_eqb, Option, Some, None, ◌⊎◌, inl, inr, length-append, mul-le-mul, mul_comm, add-mul}
+use Rattle.std.proofs.Common.{◌≡◌, ◌≢◌, ℕ, ◌+◌, ◌-◌, ◌*◌, ◌≤◌, ◌<◌, Bool, true, false, if◌then◌else◌, ◌==◌, List, [], ◌∷◌, ◌++◌, length, filter, refl, sym, ap, subst, ◌∙◌, arith, eq-eqb, ne_eqb, Option, Some, None, ◌⊎◌, inl, inr, length-append, mul_comm, add-mul}
 use Rattle.std.proofs.lemmas.Bool.{cases_eq}
 use Rattle.std.proofs.lemmas.List.{length-set, append_assoc}
-use Rattle.cost_table.specs.Costs.{cycles_of, reduced_cost}
-use Rattle.cost_table.proofs.ByOpcode.{few_cycles}
+use Rattle.timing_steps.specs.Ticks.{timed_ticks}
 use Rattle.hart_schedule.specs.Keys.{Keys, key_of, with_key, without_key}
 use Rattle.machines.specs.Places.{is_among}
-use Rattle.guest_calls.specs.Guest.{Guest, pc_of}
-use Rattle.guest_calls.specs.Retire.{next_of}
-use Rattle.run_engine.specs.Begin.{ticks_of, keys_at_rest, many, IsIdle, AreIdle, AreBegun}
+use Rattle.timed_guest.specs.Guest.{Timed}
+use Rattle.timed_guest.specs.Retire.{cycles_of_next}
+use Rattle.run_engine.specs.declared.choice.Setting.{Setting}
+use Rattle.run_engine.specs.Begin.{keys_at_rest, many, IsIdle, AreIdle, AreBegun}
+use Rattle.run_engine.specs.Run.{is_selected_in, ticks_in}
 use Rattle.run_engine.specs.Engine.{AreWithin}
 use Rattle.run_engine.proofs.Many.{many_with, many_without, many_below}
 use Rattle.run_engine.proofs.Keys.{has_place, with_key_at, without_key_at, over_key_at, rested_at}
@@ -19,7 +20,7 @@ use Rattle.machines.specs.declared.Fate.TheVariants.{Goes, Waits, Leaves, Sleeps
 use Rattle.run_engine.specs.Ending.{runs_after}
 
 -- the first of them
-pub first_idle : (g : Guest) (keys : Keys) (h : ℕ) (hs : List ℕ) → AreIdle g keys (h ∷ hs) → IsIdle g keys h
+pub first_idle : (g : Timed) (keys : Keys) (h : ℕ) (hs : List ℕ) → AreIdle g keys (h ∷ hs) → IsIdle g keys h
 first_idle g keys h hs are = are.idle h (rw (eq-eqb h h refl) refl)
 
 -- a hart that isn't among them is another one
@@ -29,7 +30,7 @@ other_than k h hs out among same =
     let clash : false ≡ true = sym out ∙ no in
     cc
 
-later_idle : (g : Guest) (keys : Keys) (h v k : ℕ) (hs : List ℕ) → AreIdle g keys (h ∷ hs) → is_among k hs ≡ true → k ≢ h → h < length keys → IsIdle g (with_key h v keys) k
+later_idle : (g : Timed) (keys : Keys) (h v k : ℕ) (hs : List ℕ) → AreIdle g keys (h ∷ hs) → is_among k hs ≡ true → k ≢ h → h < length keys → IsIdle g (with_key h v keys) k
 later_idle g keys h v k hs are among other below =
     let idle : IsIdle g keys k = are.idle k (rw (ne_eqb k h other) among) in
     record {
@@ -39,7 +40,7 @@ later_idle g keys h v k hs are among other below =
     }
 
 -- the others are idle once the first has begun
-pub rest_idle : (g : Guest) (keys : Keys) (h v : ℕ) (hs : List ℕ) → AreIdle g keys (h ∷ hs) → AreIdle g (with_key h v keys) hs
+pub rest_idle : (g : Timed) (keys : Keys) (h v : ℕ) (hs : List ℕ) → AreIdle g keys (h ∷ hs) → AreIdle g (with_key h v keys) hs
 rest_idle g keys h v hs are = record {
   apart = are.apart.1;
   idle = λ k among. later_idle g keys h v k hs are among (other_than k h hs are.apart.0 among) (first_idle g keys h hs are).below;
@@ -79,7 +80,7 @@ pub one_at_most : (p : ℕ → Bool) (h : ℕ) → length (filter p (h ∷ [])) 
 one_at_most p h = one_by (p h) h
 
 -- the harts that are left are to begin, and what then has begun are all of them, with the chosen ones of all of them after those before
-pub record IsBeginning (g : Guest) (ticks : ℕ → ℕ) (p : ℕ → Bool) (m : ℕ) (all : List ℕ) (old : Keys) (before : List ℕ) (left : List ℕ) (now : Keys) (chosen : List ℕ) : Type 0 where
+pub record IsBeginning (g : Timed) (ticks : ℕ → ℕ) (p : ℕ → Bool) (m : ℕ) (all : List ℕ) (old : Keys) (before : List ℕ) (left : List ℕ) (now : Keys) (chosen : List ℕ) : Type 0 where
   pub idle : AreIdle g now left
   pub room : length now ≡ 256
   pub begins : (new : Keys) → AreBegun ticks m left now new → AreBegun ticks m all old new
@@ -87,19 +88,19 @@ pub record IsBeginning (g : Guest) (ticks : ℕ → ℕ) (p : ℕ → Bool) (m :
   pub few : length chosen + many old ≤ length before + many now
   pub below : length chosen ≤ many now
 
-pub beginning : (g : Guest) (ticks : ℕ → ℕ) (p : ℕ → Bool) (m : ℕ) (hs : List ℕ) (keys : Keys) (before : List ℕ) → AreIdle g keys hs → length keys ≡ 256 → length before ≤ many keys
+pub beginning : (g : Timed) (ticks : ℕ → ℕ) (p : ℕ → Bool) (m : ℕ) (hs : List ℕ) (keys : Keys) (before : List ℕ) → AreIdle g keys hs → length keys ≡ 256 → length before ≤ many keys
     → IsBeginning g ticks p m hs keys before hs keys before
 beginning g ticks p m hs keys before idle room below = record { idle = idle; room = room; begins = λ new are. are; chooses = refl; few = omega arith; below = below }
 
 -- there is room for another one that is chosen
-pub room_left : (g : Guest) (ticks : ℕ → ℕ) (p : ℕ → Bool) (m : ℕ) (all : List ℕ) (old : Keys) (before : List ℕ) (h : ℕ) (hs : List ℕ) (now : Keys) (chosen : List ℕ)
+pub room_left : (g : Timed) (ticks : ℕ → ℕ) (p : ℕ → Bool) (m : ℕ) (all : List ℕ) (old : Keys) (before : List ℕ) (h : ℕ) (hs : List ℕ) (now : Keys) (chosen : List ℕ)
     → IsBeginning g ticks p m all old before (h ∷ hs) now chosen → length chosen < 256
 room_left g ticks p m all old before h hs now chosen b =
     let idle : IsIdle g now h = first_idle g now h hs b.idle in
     let few : many now < length now = many_below now h idle.below idle.absent in
     omega (arith, few, b.below, b.room)
 
-pub one_more : (g : Guest) (ticks : ℕ → ℕ) (p : ℕ → Bool) (m : ℕ) (all : List ℕ) (old : Keys) (before : List ℕ) (h : ℕ) (hs : List ℕ) (now : Keys) (chosen : List ℕ)
+pub one_more : (g : Timed) (ticks : ℕ → ℕ) (p : ℕ → Bool) (m : ℕ) (all : List ℕ) (old : Keys) (before : List ℕ) (h : ℕ) (hs : List ℕ) (now : Keys) (chosen : List ℕ)
     → IsBeginning g ticks p m all old before (h ∷ hs) now chosen
     → IsBeginning g ticks p m all old before hs (with_key h (m + ticks h) now) (chosen ++ filter p (h ∷ []))
 one_more g ticks p m all old before h hs now chosen b =
@@ -130,7 +131,7 @@ pub base_length : (b : Bool) (h : ℕ) (keys : Keys) → length (base b h keys) 
 base_length true h keys = length-set keys h None
 base_length false h keys = refl
 
-pub again_idle : (b : Bool) (g : Guest) (h : ℕ) (hs : List ℕ) (keys : Keys) → AreIdle g (base b h keys) (if b then h ∷ hs else hs) → b ≡ true → IsIdle g (without_key h keys) h
+pub again_idle : (b : Bool) (g : Timed) (h : ℕ) (hs : List ℕ) (keys : Keys) → AreIdle g (base b h keys) (if b then h ∷ hs else hs) → b ≡ true → IsIdle g (without_key h keys) h
 again_idle true g h hs keys are e = first_idle g (without_key h keys) h hs are
 again_idle false g h hs keys are e = absurd (let no : false ≡ true = e in cc)
 
@@ -139,12 +140,12 @@ pub record IsAgain (b : Bool) (ticks : ℕ → ℕ) (p : ℕ → Bool) (m h : �
   pub leaves : now ≡ (if b then with_key h (m + ticks h) keys else keys)
   pub chooses : chosen ≡ (if b then filter p (h ∷ []) else [])
 
-pub others_left : (b : Bool) (g : Guest) (ticks : ℕ → ℕ) (p : ℕ → Bool) (m h : ℕ) (hs : List ℕ) (keys now : Keys) (chosen : List ℕ) → IsAgain b ticks p m h keys now chosen
+pub others_left : (b : Bool) (g : Timed) (ticks : ℕ → ℕ) (p : ℕ → Bool) (m h : ℕ) (hs : List ℕ) (keys now : Keys) (chosen : List ℕ) → IsAgain b ticks p m h keys now chosen
     → AreIdle g keys (if b then h ∷ hs else hs) → AreIdle g now hs
 others_left true g ticks p m h hs keys now chosen is are = subst (λ (ks : Keys). AreIdle g ks hs) (sym is.leaves) (rest_idle g keys h (m + ticks h) hs are)
 others_left false g ticks p m h hs keys now chosen is are = subst (λ (ks : Keys). AreIdle g ks hs) (sym is.leaves) are
 
-pub all_begun : (b : Bool) (g : Guest) (ticks : ℕ → ℕ) (p : ℕ → Bool) (m h : ℕ) (hs : List ℕ) (keys now new : Keys) (chosen : List ℕ) → IsAgain b ticks p m h keys now chosen
+pub all_begun : (b : Bool) (g : Timed) (ticks : ℕ → ℕ) (p : ℕ → Bool) (m h : ℕ) (hs : List ℕ) (keys now new : Keys) (chosen : List ℕ) → IsAgain b ticks p m h keys now chosen
     → AreIdle g keys (if b then h ∷ hs else hs) → AreBegun ticks m hs now new → AreBegun ticks m (if b then h ∷ hs else hs) keys new
 all_begun true g ticks p m h hs keys now new chosen is are begun =
     begun_more ticks m h hs keys new (first_idle g keys h hs are).below are.apart.0 (subst (λ (ks : Keys). AreBegun ticks m hs ks new) is.leaves begun)
@@ -155,7 +156,7 @@ same_room true ticks p m h keys now chosen is = ap length is.leaves ∙ length-s
 same_room false ticks p m h keys now chosen is = ap length is.leaves
 
 -- as many have begun as are chosen at least
-pub again_few : (b : Bool) (g : Guest) (ticks : ℕ → ℕ) (p : ℕ → Bool) (m h : ℕ) (hs : List ℕ) (keys now : Keys) (chosen : List ℕ) → IsAgain b ticks p m h keys now chosen
+pub again_few : (b : Bool) (g : Timed) (ticks : ℕ → ℕ) (p : ℕ → Bool) (m h : ℕ) (hs : List ℕ) (keys now : Keys) (chosen : List ℕ) → IsAgain b ticks p m h keys now chosen
     → AreIdle g keys (if b then h ∷ hs else hs) → length chosen + many keys ≤ many now
 again_few true g ticks p m h hs keys now chosen is are =
     let idle : IsIdle g keys h = first_idle g keys h hs are in
@@ -173,14 +174,7 @@ pub all_chosen : (b : Bool) (ticks : ℕ → ℕ) (p : ℕ → Bool) (m h : ℕ)
 all_chosen true ticks p m h hs keys now chosen new is more = more ∙ ap (λ (xs : List ℕ). xs ++ filter p hs) is.chooses ∙ sym (filter_more p h hs)
 all_chosen false ticks p m h hs keys now chosen new is more = more ∙ ap (λ (xs : List ℕ). xs ++ filter p hs) is.chooses
 
-less_of : (c r : ℕ) → c ≤ 40 → r ≤ 100 → c * r ≤ 4000
-less_of c r few less = mul-le-mul few less
-
-ticks_by : (b : Bool) (c s : ℕ) → c ≤ 40 → (if b then reduced_cost c s else 100 * c) ≤ 4000
-ticks_by true c s few = let less : 100 - s ≤ 100 = omega arith in less_of c (100 - s) few less
-ticks_by false c s few = omega arith
-
-cut_by : (b : Bool) (v c s : ℕ) → s ≤ 100 → v + (if b then reduced_cost c s else 100 * c) ≡ v + 100 * c - (if b then s * c else 0)
+cut_by : (b : Bool) (v c s : ℕ) → s ≤ 100 → v + timed_ticks c b s ≡ v + 100 * c - (if b then s * c else 0)
 cut_by true v c s small =
     let parts : (100 - s + s) * c ≡ (100 - s) * c + s * c = add-mul (100 - s) s c in
     let whole : 100 - s + s ≡ 100 = omega arith in
@@ -190,24 +184,20 @@ cut_by true v c s small =
 cut_by false v c s small = omega arith
 
 -- the ticks of a selected instruction are those of another one, less what it is spared
-pub ticks_less : (is_selected : ℕ → Bool) (speedup v : ℕ) (g : Guest) (h : ℕ) → speedup ≤ 100
-    → v + ticks_of is_selected speedup g h ≡ v + 100 * cycles_of (next_of g h) - (if is_selected (pc_of g h) then speedup * cycles_of (next_of g h) else 0)
-ticks_less is_selected speedup v g h small = cut_by (is_selected (pc_of g h)) v (cycles_of (next_of g h)) speedup small
+pub ticks_less : (setting : Setting) (v : ℕ) (g : Timed) (h : ℕ) → setting.choice.speedup ≤ 100
+    → v + ticks_in setting g h ≡ v + 100 * cycles_of_next g h - (if is_selected_in setting g h then setting.choice.speedup * cycles_of_next g h else 0)
+ticks_less setting v g h small = cut_by (is_selected_in setting g h) v (cycles_of_next g h) setting.choice.speedup small
 
--- nor does a selected one
-pub ticks_few : (is_selected : ℕ → Bool) (speedup : ℕ) (g : Guest) (h : ℕ) → ticks_of is_selected speedup g h ≤ 4000
-ticks_few is_selected speedup g h = ticks_by (is_selected (pc_of g h)) (cycles_of (next_of g h)) speedup (few_cycles (next_of g h))
-
-pub within_by : (ticks : ℕ → ℕ) (m h due : ℕ) (among : Bool) (o p : Option ℕ) (moment : ℕ) → ticks h ≤ 4000 → o ≡ (if among then Some (m + ticks h) else p) → m ≤ moment → ((v : ℕ) → p ≡ Some v → v ≤ moment) → o ≡ Some due → due ≤ moment + 4000
-within_by ticks m h due true o p moment few is soon within has =
+pub within_by : (most : ℕ) (ticks : ℕ → ℕ) (m h due : ℕ) (among : Bool) (o p : Option ℕ) (moment : ℕ) → ticks h ≤ most → o ≡ (if among then Some (m + ticks h) else p) → m ≤ moment → ((v : ℕ) → p ≡ Some v → v ≤ moment) → o ≡ Some due → due ≤ moment + most
+within_by most ticks m h due true o p moment few is soon within has =
     let same : Some (m + ticks h) ≡ Some due = sym is ∙ has in
     let due_is : m + ticks h ≡ due = cc in
     omega arith
-within_by ticks m h due false o p moment few is soon within has = let before : due ≤ moment = within due (sym is ∙ has) in omega arith
+within_by most ticks m h due false o p moment few is soon within has = let before : due ≤ moment = within due (sym is ∙ has) in omega arith
 
 -- what begins is due soon
-pub within_begun : (ticks : ℕ → ℕ) (m : ℕ) (hs : List ℕ) (old new : Keys) (moment : ℕ) → ((h : ℕ) → ticks h ≤ 4000) → AreBegun ticks m hs old new → m ≤ moment → AreWithin moment old → AreWithin (moment + 4000) new
-within_begun ticks m hs old new moment few begun soon within h due has = within_by ticks m h due (is_among h hs) (key_of new h) (key_of old h) moment (few h) (begun h) soon (within h) has
+pub within_begun : (most : ℕ) (ticks : ℕ → ℕ) (m : ℕ) (hs : List ℕ) (old new : Keys) (moment : ℕ) → ((h : ℕ) → ticks h ≤ most) → AreBegun ticks m hs old new → m ≤ moment → AreWithin moment old → AreWithin (moment + most) new
+within_begun most ticks m hs old new moment few begun soon within h due has = within_by most ticks m h due (is_among h hs) (key_of new h) (key_of old h) moment (few h) (begun h) soon (within h) has
 
 left_by : (k h : ℕ) (same : Bool) (o p r : Option ℕ) (moment : ℕ) → o ≡ (if same then r else p) → ((v : ℕ) → r ≡ Some v → v ≤ moment) → ((v : ℕ) → p ≡ Some v → v ≤ moment) → (due : ℕ) → o ≡ Some due → due ≤ moment
 left_by k h true o p r moment is soon within due has = soon due (sym is ∙ has)

@@ -1,35 +1,35 @@
 -- One move of the engine of both machines.
 use Rattle.std.specs.Prelude.{◌≡◌, ℕ, ◌+◌, ◌^◌, ◌≤◌, ◌<◌, ◌++◌, Bool, true, false, List, [], ◌∷◌, length, nat_le, Option, Some, None, IsSome}
 use Rattle.coz_types.specs.declared.TheConstants.{MAX_SPEEDUP, HARTS}
-use Rattle.cost_table.specs.declared.TheConstants.{MAX_TICKS}
 use Rattle.coz_types.specs.declared.ending.Ending.{Ending}
 use Rattle.hart_schedule.specs.Keys.{Keys, key_of, IsLeast}
 use Rattle.machines.specs.declared.Fate.{Fate}
 use Rattle.machines.specs.declared.Fate.TheVariants.{Sleeps}
 use Rattle.machines.specs.Shortened.{move}
-use Rattle.line_index.specs.Index.{position_at}
 use Rattle.progress_points.specs.Points.{point_of}
-use Rattle.guest_calls.specs.Calls.{retirement}
-use Rattle.guest_calls.specs.Guest.{Guest, pc_of, is_running, is_sleeping, with_wake}
-use Rattle.guest_calls.specs.Retire.{retire}
+use Rattle.timed_guest.specs.Guest.{Timed, pc_of, is_running, is_sleeping, with_wake}
+use Rattle.timed_guest.specs.Retire.{retire, retirement}
 use Rattle.run_engine.specs.declared.choice.Setting.{Setting}
 use Rattle.run_engine.specs.declared.engine.Event.{Event}
 use Rattle.run_engine.specs.declared.engine.Event.TheVariants.{Woke, Retired}
 use Rattle.run_engine.specs.declared.engine.Engine.{Engine}
 use Rattle.run_engine.specs.Begin.{last_moment, started_by, keys_at_rest, many, AreIdle, AreBegun}
 use Rattle.run_engine.specs.Ending.{ending_of, runs_after}
-use Rattle.run_engine.specs.Run.{experiment_from, selected_of, ticks_in}
+use Rattle.run_engine.specs.Run.{timed_from, selected_of, ticks_in}
 use Rattle.run_engine.specs.Engine.{events_of, state_of, AreDues, AreWithin, IsStateOf}
 use Rattle.run_engine.specs.Visits.{visits_of}
+
+-- no hart's next instruction takes more ticks
+abbrev pub AreTicks : ℕ → Setting → Timed → Type 0
+AreTicks most setting t = (hart : ℕ) → ticks_in setting t hart ≤ most
 
 -- in a setting this engine becomes that one as a hart retires to this fate,
 -- if a visit is kept with this delay
 pub record IsRetired (setting : Setting) (engine : Engine) (hart : ℕ) (fate : Fate) (delay : ℕ)
     (new : Engine) : Type 0 where
   -- a move of the shortened machine, whatever its guest began as
-  pub moved : (first : Guest) (dues : List (Option ℕ)) → AreDues engine.schedule dues
-      → IsStateOf new (move (experiment_from first (position_at setting.index.now)
-      (point_of setting.points.now) setting.choice) (state_of engine dues))
+  pub moved : (first : Timed) (dues : List (Option ℕ)) → AreDues engine.schedule dues
+      → IsStateOf new (move (timed_from first (point_of setting.points.now) setting.choice) (state_of engine dues))
   -- the hart is the one that is due first
   pub turn : key_of engine.schedule hart ≡ Some new.time
   pub first : IsLeast engine.schedule hart
@@ -40,7 +40,7 @@ pub record IsRetired (setting : Setting) (engine : Engine) (hart : ℕ) (fate : 
         hart (new.time + delay) delay;
   }
   pub ending : new.ending ≡ ending_of fate
-      (nat_le setting.choice.output_limit (length new.guest.output))
+      (nat_le setting.choice.output_limit (length new.guest.guest.output))
       (nat_le setting.choice.visit_limit (length new.visits.kept))
       (runs_after fate new.started (keys_at_rest hart fate engine.schedule))
       new.retired setting.choice.budget
@@ -53,15 +53,16 @@ pub record IsRetired (setting : Setting) (engine : Engine) (hart : ℕ) (fate : 
   pub wakes : new.wakes ≡ engine.wakes
   pub few : new.starts ≤ events_of new + many new.schedule
   -- no wake is later than at 10^16
-  pub within : (moment : ℕ) → 10 ^ 16 ≤ moment → AreWithin moment engine.schedule
-      → AreWithin (moment + MAX_TICKS) new.schedule
+  pub within : (most : ℕ) → AreTicks most setting new.guest
+      → (moment : ℕ) → 10 ^ 16 ≤ moment → AreWithin moment engine.schedule
+      → AreWithin (moment + most) new.schedule
 
 -- how its run ends with a retirement to this fate, if those are the keys of the harts
 -- that stay in the schedule
 abbrev pub told_in : Setting → Fate → Engine → Keys → Option Ending
 told_in setting fate engine keys =
     ending_of fate
-    (nat_le setting.choice.output_limit (length engine.guest.output))
+    (nat_le setting.choice.output_limit (length engine.guest.guest.output))
     (nat_le setting.choice.visit_limit (length engine.visits.kept))
     (runs_after fate engine.started keys)
     engine.retired setting.choice.budget
@@ -110,9 +111,8 @@ pub record IsCompleted (setting : Setting) (engine : Engine) (hart : ℕ) (fate 
 -- it becomes that one as a sleeping hart wakes at this moment, and its next instruction begins
 pub record IsWoken (setting : Setting) (engine : Engine) (hart moment : ℕ)
     (new : Engine) : Type 0 where
-  pub moved : (first : Guest) (dues : List (Option ℕ)) → AreDues engine.schedule dues
-      → IsStateOf new (move (experiment_from first (position_at setting.index.now)
-      (point_of setting.points.now) setting.choice) (state_of engine dues))
+  pub moved : (first : Timed) (dues : List (Option ℕ)) → AreDues engine.schedule dues
+      → IsStateOf new (move (timed_from first (point_of setting.points.now) setting.choice) (state_of engine dues))
   pub turn : key_of engine.schedule hart ≡ Some moment
   pub first : IsLeast engine.schedule hart
   pub asleep : is_sleeping engine.guest hart ≡ true
@@ -121,8 +121,9 @@ pub record IsWoken (setting : Setting) (engine : Engine) (hart moment : ℕ)
   pub wakes : new.wakes ≡ engine.wakes + 1
   pub room : length new.schedule ≡ HARTS
   pub few : new.starts ≤ events_of new + many new.schedule
-  pub within : (moment : ℕ) → AreWithin moment engine.schedule
-      → AreWithin (moment + MAX_TICKS) new.schedule
+  pub within : (most : ℕ) → AreTicks most setting new.guest
+      → (moment : ℕ) → AreWithin moment engine.schedule
+      → AreWithin (moment + most) new.schedule
   -- nothing is visited, nor retired, nor ended
   pub rest : new ≡ record engine {
     guest = new.guest;

@@ -1,24 +1,15 @@
 -- How harts begin their next instructions.
-use Rattle.std.specs.Prelude.{◌≡◌, ℕ, suc, ◌+◌, ◌*◌, ◌^◌, ◌<◌, Bool, true, if◌then◌else◌, List, [], ◌∷◌, length, Some, None}
-use Rattle.cost_table.specs.Costs.{cycles_of, reduced_cost}
+use Rattle.std.specs.Prelude.{◌≡◌, ℕ, suc, ◌+◌, ◌*◌, ◌^◌, ◌<◌, true, if◌then◌else◌, List, [], ◌∷◌, length, Some, None}
 use Rattle.hart_schedule.specs.Keys.{Keys, key_of, with_key, without_key}
 use Rattle.machines.specs.declared.Fate.{Fate}
 use Rattle.machines.specs.declared.Fate.TheVariants.{Goes, Waits, Leaves, Sleeps, Ends}
 use Rattle.machines.specs.Guest.{goes_on}
 use Rattle.machines.specs.Places.{is_among, AllApart}
-use Rattle.guest_calls.specs.Guest.{Guest, IsMade, pc_of}
-use Rattle.guest_calls.specs.Retire.{next_of}
+use Rattle.timed_guest.specs.Guest.{Timed, IsMade}
 
 -- no moment of a run is later: an instruction that begins then is due before 2^56
 abbrev pub last_moment : ℕ
 last_moment = 7 * 10 ^ 16
-
--- the ticks of a hart's next instruction: fewer if its address is a selected one,
--- as the speedup in per cent says
-abbrev pub ticks_of : (ℕ → Bool) → ℕ → Guest → ℕ → ℕ
-ticks_of is_selected speedup g hart =
-    if is_selected (pc_of g hart) then reduced_cost (cycles_of (next_of g hart)) speedup
-    else 100 * cycles_of (next_of g hart)
 
 -- the harts that a retirement of this fate starts: the retiring one if it goes on, and those
 -- that it made or woke
@@ -35,13 +26,13 @@ keys_at_rest hart (Sleeps moment) keys = with_key hart moment (without_key hart 
 keys_at_rest hart (Ends ending) keys = without_key hart keys
 
 -- a hart was made, and isn't in the schedule
-pub record IsIdle (g : Guest) (keys : Keys) (hart : ℕ) : Type 0 where
+pub record IsIdle (g : Timed) (keys : Keys) (hart : ℕ) : Type 0 where
   pub made : IsMade g hart
   pub below : hart < length keys
   pub absent : key_of keys hart ≡ None
 
 -- each of these harts is idle, and none comes twice
-pub record AreIdle (g : Guest) (keys : Keys) (harts : List ℕ) : Type 0 where
+pub record AreIdle (g : Timed) (keys : Keys) (harts : List ℕ) : Type 0 where
   pub apart : AllApart harts
   pub idle : (hart : ℕ) → is_among hart harts ≡ true → IsIdle g keys hart
 

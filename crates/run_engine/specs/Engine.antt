@@ -1,19 +1,31 @@
 -- The state of the engine of both machines: a state of the shortened machine,
 -- and what holds between its moves.
-use Rattle.std.specs.Prelude.{◌≡◌, ℕ, ◌+◌, ◌*◌, ◌^◌, ◌≤◌, ◌<◌, List, [], ◌∷◌, map, length, get_or, Option, Some, None, is_some}
+use Rattle.std.specs.Prelude.{◌≡◌, ℕ, ◌+◌, ◌*◌, ◌^◌, ◌≤◌, ◌<◌, ◌==◌, max, if◌then◌else◌, List, [], ◌∷◌, map, length, get_or, Option, Some, None, is_some}
 use Rattle.coz_types.specs.declared.TheConstants.{HARTS}
-use Rattle.cost_table.specs.declared.TheConstants.{MAX_TICKS}
 use Rattle.coz_types.specs.Image.{ImageParts}
 use Rattle.hart_schedule.specs.Keys.{Keys, key_of, IsEmpty}
 use Rattle.machines.specs.Guest.{Experiment}
 use Rattle.machines.specs.Shortened.{Shortened, shortened}
-use Rattle.guest_calls.specs.Guest.{Guest, is_timed}
-use Rattle.guest_calls.specs.Orderly.{IsOrderly}
+use Rattle.timing_model.specs.declared.timing.Timing.{Timing}
+use Rattle.timing_model.specs.declared.costs.Costs.{Costs}
+use Rattle.timed_guest.specs.Guest.{Timed, is_timed}
+use Rattle.timed_guest.specs.Orderly.{IsOrderly}
+use Rattle.timed_guest.specs.Counts.{CountsWithin}
 use Rattle.run_engine.specs.declared.choice.Setting.{Setting}
 use Rattle.run_engine.specs.declared.engine.Engine.{Engine}
 use Rattle.run_engine.specs.Begin.{last_moment, many}
 use Rattle.run_engine.specs.Run.{experiment_in, selected_of}
 use Rattle.machines.specs.KeptVisits.{net_of}
+
+-- the cycles of the dearest class
+abbrev pub most_cost : Costs → ℕ
+most_cost c =
+    max c.integer
+    (max c.jump (max c.load (max c.multiply (max c.atomic (max c.divide c.ecall)))))
+
+-- no instruction takes more ticks on a machine: jitter doubles its cycles
+abbrev pub most_ticks : Timing → ℕ
+most_ticks t = if t.seed == 0 then 100 * most_cost t.costs else 200 * most_cost t.costs
 
 -- the retirements and wakes so far
 abbrev pub events_of : Engine → ℕ
@@ -21,7 +33,7 @@ events_of engine = engine.retired + engine.wakes
 
 -- the state of the shortened machine by the engine's fields, with these moments
 -- at which harts are due
-abbrev pub state_of : Engine → List (Option ℕ) → Shortened Guest
+abbrev pub state_of : Engine → List (Option ℕ) → Shortened Timed
 state_of engine dues = record {
   time = engine.time;
   guest = engine.guest;
@@ -38,7 +50,7 @@ abbrev pub AreDues : Keys → List (Option ℕ) → Type 0
 AreDues keys dues = (hart : ℕ) → key_of keys hart ≡ get_or dues hart None
 
 -- the fields hold this state
-pub record IsStateOf (engine : Engine) (s : Shortened Guest) : Type 0 where
+pub record IsStateOf (engine : Engine) (s : Shortened Timed) : Type 0 where
   pub state : s ≡ state_of engine s.dues
   pub dues : AreDues engine.schedule s.dues
 
@@ -58,10 +70,17 @@ pub record IsSteady (engine : Engine) : Type 0 where
   pub retired : engine.retired ≤ 2 ^ 60
   pub wakes : engine.wakes ≤ 2 ^ 60
   pub few : engine.starts ≤ events_of engine + many engine.schedule
+  -- what the machine counts is small
+  pub counts : CountsWithin (events_of engine) engine.guest
+
+-- its guest is on the machine of a setting, with the lines of the setting
+pub record IsOnMachine (setting : Setting) (engine : Engine) : Type 0 where
+  pub timing : engine.guest.beside.timing ≡ setting.timing
+  pub lines : engine.guest.index ≡ setting.index.now
 
 -- the engine of a run of x: its fields hold the state after as many moves as instructions were
 -- retired and harts woken
-pub record IsEngineOf (x : Experiment Guest) (engine : Engine) : Type 0 where
+pub record IsEngineOf (x : Experiment Timed) (engine : Engine) : Type 0 where
   pub reached : IsStateOf engine (shortened x (events_of engine))
   pub room : length engine.schedule ≡ HARTS
   pub limit : engine.visits.limit ≡ x.visit_limit
@@ -69,7 +88,8 @@ pub record IsEngineOf (x : Experiment Guest) (engine : Engine) : Type 0 where
   pub retired : engine.retired ≤ x.budget
   pub few : engine.starts ≤ events_of engine + many engine.schedule
   -- a hart sleeps to a moment of at most 10^16, and each event takes at most an instruction's ticks
-  pub within : AreWithin (10 ^ 16 + MAX_TICKS * (events_of engine + 1)) engine.schedule
+  pub within : AreWithin
+      (10 ^ 16 + most_ticks x.first.beside.timing * (events_of engine + 1)) engine.schedule
 
 -- as it begins the run of an image on an input
 pub record IsFirst (setting : Setting) (image : ImageParts) (input : List ℕ)

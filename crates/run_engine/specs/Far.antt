@@ -7,7 +7,7 @@ use Rattle.progress_points.specs.Points.{point_of}
 use Rattle.run_engine.specs.declared.choice.Setting.{Setting}
 use Rattle.run_engine.specs.declared.engine.Event.{Event}
 use Rattle.run_engine.specs.declared.engine.Engine.{Engine}
-use Rattle.run_engine.specs.Engine.{IsSteady}
+use Rattle.run_engine.specs.Engine.{IsSteady, IsOnMachine}
 use Rattle.run_engine.specs.Advance.{IsRetired, IsAdvance}
 
 -- in a setting this engine becomes that one as a hart retires quietly: it goes on, it alone
@@ -50,7 +50,7 @@ IsLimit keys hart limit =
 -- there, no limit is reached, and the budget is enough
 pub record AllowsQuiet (setting : Setting) (engine : Engine) (address most : ℕ) : Type 0 where
   pub point : point_of setting.points.now address ≡ None
-  pub output : nat_le setting.choice.output_limit (length engine.guest.output) ≡ false
+  pub output : nat_le setting.choice.output_limit (length engine.guest.guest.output) ≡ false
   pub visits : nat_le setting.choice.visit_limit (length engine.visits.kept) ≡ false
   pub budget : engine.retired + most ≤ setting.choice.budget
 
@@ -59,5 +59,6 @@ pub record HasPassed (setting : Setting) (engine new : Engine) : Type 0 where
   pub count : ℕ
   pub quiet : AreQuiet setting count engine new
   pub steady : IsSteady new
+  pub machine : IsOnMachine setting new
   pub more : engine.retired < new.retired
   pub few : new.retired ≤ setting.choice.budget

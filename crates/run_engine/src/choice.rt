@@ -10,6 +10,7 @@ use coz_types::{Address, LineId, MAX_VISITS};
 use guest_memory::Layout;
 use line_index::LineIndex;
 use progress_points::Points;
+use timing_model::Timing;
 
 /// The options of a run.
 #[derive(Clone, Copy)]
@@ -54,13 +55,15 @@ impl Choice {
     }
 }
 
-/// The line index, the progress points and the options of a run.
+/// The lines, the progress points, the machine and the options of a run.
 #[derive(Clone, Copy)]
 pub struct Setting<'a> {
     /// The lines of the program.
     pub index: &'a LineIndex,
     /// The progress points.
     pub points: &'a Points,
+    /// The machine of the timing model that the program runs on.
+    pub timing: Timing,
     /// The options.
     pub choice: Choice,
 }

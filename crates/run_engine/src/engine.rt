@@ -7,23 +7,25 @@ ghost use Rattle.machines.specs.declared.Fate.TheVariants.{Sleeps};
 ghost use Rattle.machines.specs.Guest.{goes_on};
 ghost use Rattle.machines.specs.Shortened.{has_due_any};
 ghost use Rattle.progress_points.specs.Points.{point_of};
-ghost use Rattle.guest_calls.specs.Calls.{retirement};
-ghost use Rattle.guest_calls.specs.Guest.{making, is_running, is_sleeping, pc_of, IsMade};
-ghost use Rattle.guest_calls.specs.Retire.{retire};
+ghost use Rattle.timing_laws.specs.Noted.{note_of};
+ghost use Rattle.timed_guest.specs.Guest.{making, is_running, is_sleeping, pc_of, IsMade};
+ghost use Rattle.timed_guest.specs.Retire.{retire, retirement};
 ghost use Rattle.run_engine.specs.Begin.{last_moment, started_by, keys_at_rest, many, AreIdle, AreBegun};
 ghost use Rattle.run_engine.specs.Ending.{ending_of, runs_after};
 ghost use Rattle.run_engine.specs.Engine.{AreWithin};
 ghost use Rattle.run_engine.specs.Far.{IsLimit};
 ghost use Rattle.run_engine.specs.Visits.{visits_of};
 ghost use Rattle.run_engine.specs.Advance.{is_wake};
+ghost use Rattle.timing_model.specs.Timing.{IsUsual};
 
 use crate::start::{add_if, begin, begin_again, begin_each, begin_next};
 use crate::{Choice, MarkedSetting, Setting, Visits};
 use coz_types::{Address, Ending, HARTS, HartId, Image, Tick, Visit};
-use guest_calls::{Fate, Guest};
+use guest_calls::Fate;
 use guest_futex::HartList;
 use hart_schedule::Schedule;
 use std::alloc::{AllocError, Global};
+use timed_guest::TimedGuest;
 
 /// The hart that a program begins with: hart 0.
 pub const FIRST: HartId = HartId(0);
@@ -40,8 +42,8 @@ const LATEST: Tick = 70_000_000_000_000_000;
 /// reads them at each event; a fork of a lead also makes harts of `schedule` due sooner.
 #[derive(Drop)]
 pub struct Engine<'a> {
-    /// The guest: its memory, its harts, and what it wrote.
-    pub guest: Guest<'a>,
+    /// The guest on its machine: its memory, its harts, what it wrote, and who has a core.
+    pub guest: TimedGuest<'a>,
     /// The net time at which each running hart retires its next instruction, and each sleeping
     /// hart wakes. A raise of the global delay changes none of these times.
     pub schedule: Schedule,
@@ -132,9 +134,11 @@ fn limit_of(schedule: &Schedule, hart: HartId) -> Tick
 
 /// Retires the instruction of a running hart whose turn it is. The guest knows net time alone.
 #[inline(always)]
-fn retire_due(guest: &mut Guest, turn: Turn, started: &mut HartList) -> Fate
+fn retire_due(guest: &mut TimedGuest, turn: Turn, started: &mut HartList) -> Fate
     requires running { IsTrue (is_running guest.old turn.hart.0) }
     requires started { started.old ≡ [] }
+    requires due { turn.due ≤ last_moment }
+    requires count { (note_of guest.old.beside.notes turn.hart.0).count ≤ 2 ^ 61 }
     ensures effect { retirement guest.new result started.new
         ≡ retire guest.old turn.hart.0 turn.due }
     ensures made { making guest.new ≡ making guest.old }
@@ -236,8 +240,8 @@ fn ending_after(
 }
 
 impl<'a> Engine<'a> {
-    ghost use Rattle.run_engine.specs.Run.{selected_of, ticks_in, IsChoice};
-    ghost use Rattle.run_engine.specs.Engine.{IsSteady, IsFirst};
+    ghost use Rattle.run_engine.specs.Run.{selected_of, ticks_in, IsChoice, IsSetting};
+    ghost use Rattle.run_engine.specs.Engine.{IsSteady, IsFirst, IsOnMachine};
     ghost use Rattle.run_engine.specs.Advance.{CanComplete, IsAdvance, IsRetired, IsCompleted, IsWoken};
     ghost use Rattle.run_engine.specs.Far.{IsFarAdvance, IsFarRetired, HasPassed, AllowsQuiet};
 
@@ -246,16 +250,24 @@ impl<'a> Engine<'a> {
         alloc: Global,
         image: &'a Image<'a>,
         input: &'a [u8],
-        setting: &Setting,
+        setting: &Setting<'a>,
     ) -> Result<Engine<'a>, AllocError>
-        requires { IsChoice setting.now.choice }
+        requires { IsSetting setting.now }
         ensures { IfOk result (λ engine. IsFirst setting.now image.now input.now engine) }
     {
         let choice = setting.choice;
         let visits = Visits::new(alloc, choice.visit_limit)?;
         let mut schedule = Schedule::new(alloc, HARTS as u32)?;
         // The guest has many parts: nothing that may fail comes after it.
-        let guest = Guest::new(alloc, image, input, choice.output_limit, choice.layout)?;
+        let guest = TimedGuest::new(
+            alloc,
+            image,
+            input,
+            choice.output_limit,
+            choice.layout,
+            setting.index,
+            setting.timing,
+        )?;
         let mut selected = HartList::new();
         begin(setting, &guest, &mut schedule, &mut selected, FIRST, 0);
         let starts = selected.harts().len() as u64;
@@ -293,11 +305,12 @@ impl<'a> Engine<'a> {
     /// Makes one move or more: quiet retirements, which go on, start no other hart, visit no point
     /// and begin no instruction of the selected line, and after them one move as `advance` makes
     /// it. Returns the event of the last move. `delay` is that of all moves: a quiet
-    /// retirement raises none.
+    /// retirement raises none. Only on the usual machine are there moves before the last.
     #[inline]
     pub fn advance_far(&mut self, marked: &MarkedSetting, delay: Tick) -> Event
         requires steady { IsSteady self.old }
-        requires choice { IsChoice marked.now.choice }
+        requires setting { IsSetting marked.now }
+        requires machine { IsOnMachine marked.now self.old }
         requires delay { delay ≤ 10 ^ 17 }
         ensures { IsFarAdvance marked.now self.old result delay self.new }
     {
@@ -307,7 +320,7 @@ impl<'a> Engine<'a> {
                 self.wake(marked.setting(), turn);
                 return Event::Woke(turn);
             }
-            let most = self.most_from(marked, self.guest.pc(turn.hart));
+            let most = self.most_from(marked, turn.hart);
             if most < 2 {
                 return Event::Retired(self.retire(marked.setting(), turn, delay));
             }
@@ -329,7 +342,9 @@ impl<'a> Engine<'a> {
         delay: Tick,
     ) -> Option<Retired>
         requires steady { IsSteady self.old }
-        requires choice { IsChoice marked.now.choice }
+        requires setting { IsSetting marked.now }
+        requires machine { IsOnMachine marked.now self.old }
+        requires usual { IsUsual self.old.guest.beside.timing }
         requires delay { delay ≤ 10 ^ 17 }
         requires turn { key_of self.old.schedule turn.hart.0 ≡ Some turn.due }
         requires first { IsLeast self.old.schedule turn.hart.0 }
@@ -368,17 +383,24 @@ impl<'a> Engine<'a> {
         })
     }
 
-    /// The most instructions to retire in a row from this address on: one if it may have a point
-    /// or a limit is reached, and else as many as the budget leaves.
+    /// The most instructions that a hart may retire in a row: one if the machine is not the usual
+    /// one, the hart may be at a point, or a limit is reached; and else as many as the budget
+    /// leaves.
     #[inline(always)]
-    fn most_from(&self, marked: &MarkedSetting, address: Address) -> u64
-        requires { IsChoice marked.now.choice }
+    fn most_from(&self, marked: &MarkedSetting, hart: HartId) -> u64
+        requires setting { IsSetting marked.now }
+        requires made { IsMade self.now.guest hart.0 }
         ensures some { 1 ≤ result }
         ensures few { result ≤ MAX_BUDGET }
-        ensures allows { 1 < result → AllowsQuiet marked.now self.now address result }
+        ensures usual { 1 < result → IsUsual self.now.guest.beside.timing }
+        ensures allows { 1 < result
+            → AllowsQuiet marked.now self.now (pc_of self.now.guest hart.0) result }
     {
         let choice = marked.choice();
-        if marked.may_visit(address) || self.ends_with(&choice, Fate::Goes) {
+        let may_stop = !self.guest.is_usual()
+            || marked.may_visit(self.guest.pc(hart))
+            || self.ends_with(&choice, Fate::Goes);
+        if may_stop {
             1
         } else {
             choice.budget - self.retired
@@ -512,7 +534,7 @@ impl<'a> Engine<'a> {
         } }
     {
         self.selected.clear();
-        let selected = setting.has_selected(self.guest.pc(FIRST));
+        let selected = self.guest.is_selected(FIRST, setting.choice.selected);
         add_if(selected, &mut self.selected, FIRST);
         self.starts = self.selected.harts().len() as u64;
     }
@@ -583,7 +605,7 @@ impl<'a> Engine<'a> {
 
     /// The output so far, at most 67,108,864 bytes.
     pub fn output(&self) -> &[u8]
-        ensures bytes { result.now ≡ self.now.guest.output }
+        ensures bytes { result.now ≡ self.now.guest.guest.output }
         ensures few { length result.now ≤ MAX_OUTPUT }
     {
         self.guest.output()
@@ -594,7 +616,7 @@ impl<'a> Engine<'a> {
     #[inline(always)]
     fn ends_with(&self, choice: &Choice, fate: Fate) -> bool
         ensures { result ≡ is_some (ending_of fate
-            (nat_le choice.now.output_limit (length self.now.guest.output))
+            (nat_le choice.now.output_limit (length self.now.guest.guest.output))
             (nat_le choice.now.visit_limit (length self.now.visits.kept))
             (runs_after fate self.now.started self.now.schedule)
             self.now.retired choice.now.budget) }
@@ -613,7 +635,7 @@ impl<'a> Engine<'a> {
     #[inline(never)]
     fn ending_after(&self, choice: &Choice, fate: Fate) -> Option<Ending>
         ensures { result ≡ ending_of fate
-            (nat_le choice.now.output_limit (length self.now.guest.output))
+            (nat_le choice.now.output_limit (length self.now.guest.guest.output))
             (nat_le choice.now.visit_limit (length self.now.visits.kept))
             (runs_after fate self.now.started self.now.schedule)
             self.now.retired choice.now.budget }

@@ -2,21 +2,21 @@
 
 ghost use Rattle.std.specs.Prelude.{◌≡◌, ◌+◌, ◌^◌, ◌≤◌, ◌<◌, ◌++◌, [], ◌∷◌, length, map, if◌then◌else◌, IsTrue};
 ghost use Rattle.coz_types.specs.declared.TheConstants.{MAX_SPEEDUP, HARTS};
-ghost use Rattle.cost_table.specs.declared.TheConstants.{MAX_TICKS};
+ghost use Rattle.timing_steps.specs.declared.ticks.TheConstants.{MAX_TICKS};
 ghost use Rattle.hart_schedule.specs.Keys.{with_key, without_key};
 ghost use Rattle.machines.specs.Guest.{goes_on};
-ghost use Rattle.guest_calls.specs.Guest.{IsMade, pc_of};
+ghost use Rattle.timed_guest.specs.Guest.{IsMade};
 ghost use Rattle.run_engine.specs.Begin.{last_moment, many, IsIdle, AreIdle, AreBegun};
-ghost use Rattle.run_engine.specs.Run.{is_selecting, selected_of, ticks_in};
+ghost use Rattle.run_engine.specs.Run.{is_selected_in, selected_of, ticks_in};
 
 use crate::Setting;
-use cost_table::reduced;
 use coz_types::{HartId, Tick};
-use guest_calls::{Fate, Guest};
+use guest_calls::Fate;
 use guest_futex::HartList;
 use hart_schedule::Schedule;
+use timed_guest::TimedGuest;
 
-/// The ticks of a hart's next instruction, and whether it has the selected line.
+/// The ticks of a hart's next instruction, and whether it has the selected line or is charged to it.
 #[derive(Clone, Copy, Drop)]
 struct Cost {
     ticks: Tick,
@@ -25,17 +25,17 @@ struct Cost {
 
 /// The cost of a hart's next instruction.
 #[inline(always)]
-fn cost_of(setting: &Setting, guest: &Guest, hart: HartId) -> Cost
+fn cost_of(setting: &Setting, guest: &TimedGuest, hart: HartId) -> Cost
     requires made { IsMade guest.now hart.0 }
     requires speedup { setting.now.choice.speedup ≤ MAX_SPEEDUP }
     ensures ticks { result.ticks ≡ ticks_in setting.now guest.now hart.0 }
-    ensures selected { result.selected ≡ is_selecting setting.now (pc_of guest.now hart.0) }
+    ensures selected { result.selected ≡ is_selected_in setting.now guest.now hart.0 }
     ensures few { result.ticks ≤ MAX_TICKS }
 {
     let cycles = guest.next_cycles(hart);
-    if setting.has_selected(guest.pc(hart)) {
+    if guest.is_selected(hart, setting.choice.selected) {
         Cost {
-            ticks: reduced(cycles, setting.choice.speedup),
+            ticks: cycles * (100 - u64::from(setting.choice.speedup)),
             selected: true,
         }
     } else {
@@ -62,7 +62,7 @@ pub fn add_if(selected: bool, harts: &mut HartList, hart: HartId)
 #[inline(never)]
 pub fn begin(
     setting: &Setting,
-    guest: &Guest,
+    guest: &TimedGuest,
     schedule: &mut Schedule,
     selected: &mut HartList,
     hart: HartId,
@@ -87,7 +87,7 @@ pub fn begin(
 #[inline(always)]
 pub fn begin_next(
     setting: &Setting,
-    guest: &Guest,
+    guest: &TimedGuest,
     schedule: &mut Schedule,
     selected: &mut HartList,
     hart: HartId,
@@ -111,7 +111,7 @@ pub fn begin_next(
 #[inline(always)]
 pub fn begin_again(
     setting: &Setting,
-    guest: &Guest,
+    guest: &TimedGuest,
     schedule: &mut Schedule,
     selected: &mut HartList,
     hart: HartId,
@@ -138,7 +138,7 @@ pub fn begin_again(
 /// The next instructions of these harts begin at a moment.
 pub fn begin_each(
     setting: &Setting,
-    guest: &Guest,
+    guest: &TimedGuest,
     schedule: &mut Schedule,
     selected: &mut HartList,
     harts: &[HartId],

@@ -8,9 +8,10 @@ use Rattle.machines.specs.declared.Fate.TheVariants.{Goes}
 use Rattle.machines.specs.Guest.{Experiment, enough}
 use Rattle.machines.specs.Shortened.{Shortened, shortened}
 use Rattle.machines.specs.Records.{net_record_of, IsShortened, shortened_record}
-use Rattle.line_index.specs.Index.{Index, position_at}
+use Rattle.line_index.specs.Index.{Index}
 use Rattle.progress_points.specs.Points.{Points, point_of}
-use Rattle.guest_calls.specs.Guest.{Guest, first_guest, pc_of}
+use Rattle.timing_model.specs.declared.timing.Timing.{Timing}
+use Rattle.timed_guest.specs.Guest.{Timed, first_guest, pc_of}
 use Rattle.run_engine.specs.declared.choice.Choice.{Choice}
 use Rattle.run_engine.specs.declared.choice.Setting.{Setting}
 use Rattle.run_engine.specs.declared.engine.Event.{Event}
@@ -45,15 +46,15 @@ module _ (image : ImageParts) (input : List ℕ) (setting : Setting) (engine : E
       record {
         valid = short.valid;
         reached =
-            reached_woken image (position_at setting.index.now) (point_of setting.points.now) input setting.choice short.valid engine short.reached new none
-            (did.moved (first_guest image input setting.choice.output_limit setting.choice.layout) _ short.reached.reached.dues) did.room same (ap (λ (o : Engine). o.retired) did.rest) did.wakes did.few did.within;
+            reached_woken image input setting short.valid engine short.reached new none
+            (did.moved (first_guest image input setting.choice.output_limit setting.choice.layout setting.timing setting.index.now) _ short.reached.reached.dues) did.room same (ap (λ (o : Engine). o.retired) did.rest) did.wakes did.few did.within;
         undelayed = subst (λ (v : Visits). AreUndelayed v.kept) (sym same) short.undelayed;
       }
   short_next (Retired retired) did = record {
     valid = short.valid;
     reached =
-        reached_next image (position_at setting.index.now) (point_of setting.points.now) input setting.choice short.valid engine short.reached new none
-        (did.moved (first_guest image input setting.choice.output_limit setting.choice.layout) _ short.reached.reached.dues) did.room (ap (λ (vs : Visits). vs.limit) did.visits) did.unfull did.retired did.wakes did.few did.within;
+        reached_next image input setting short.valid engine short.reached new none
+        (did.moved (first_guest image input setting.choice.output_limit setting.choice.layout setting.timing setting.index.now) _ short.reached.reached.dues) did.room (ap (λ (vs : Visits). vs.limit) did.visits) did.unfull did.retired did.wakes did.few did.within;
     undelayed =
         more_undelayed engine.visits.kept new.visits.kept (point_of setting.points.now (pc_of engine.guest retired.hart.0)) retired.hart.0 (new.time + 0)
         (ap (λ (vs : Visits). vs.kept) did.visits) short.undelayed;
@@ -64,7 +65,7 @@ module _ (image : ImageParts) (input : List ℕ) (setting : Setting) (engine : E
   short_count (Retired retired) did = omega (arith, did.retired, did.wakes)
 
   pub short_below : events_of engine < 2 * setting.choice.budget
-  short_below = events_below image (position_at setting.index.now) (point_of setting.points.now) input setting.choice short.valid engine short.reached none
+  short_below = events_below image input setting short.valid engine short.reached none
 
 -- after some quiet retirements it goes on, and counts each
 record IsShortAfter (image : ImageParts) (input : List ℕ) (setting : Setting) (engine : Engine) (n : ℕ) (new : Engine) : Type 0 where
@@ -95,28 +96,28 @@ module _ (image : ImageParts) (input : List ℕ) (setting : Setting) (engine : E
       let count : events_of new ≡ events_of did.0 + 1 = short_count image input setting did.0 before_last.short before_last.goes new event did.3 in
       omega (arith, count, before_last.count)
 
-module _ (image : ImageParts) (input : List ℕ) (setting : Setting) (engine : Engine) (short : IsShort image input setting engine) (old : Experiment Guest) (same : old ≡ experiment_in image input setting) where
-  abbrev x : Experiment Guest
+module _ (image : ImageParts) (input : List ℕ) (setting : Setting) (engine : Engine) (short : IsShort image input setting engine) (old : Experiment Timed) (same : old ≡ experiment_in image input setting) where
+  abbrev x : Experiment Timed
   x = experiment_in image input setting
 
   -- the record of a run that has ended, of what was run at first
   pub recorded_of : (e : Ending) → engine.ending ≡ Some e → net_record_of old (shortened x (events_of engine)) e ≡ shortened_record old
   recorded_of e ended =
-      subst (λ (o : Experiment Guest). net_record_of o (shortened x (events_of engine)) e ≡ shortened_record o) (sym same)
-      (recorded_now image (position_at setting.index.now) (point_of setting.points.now) input setting.choice short.valid engine short.reached e ended)
+      subst (λ (o : Experiment Timed). net_record_of o (shortened x (events_of engine)) e ≡ shortened_record o) (sym same)
+      (recorded_now image input setting short.valid engine short.reached e ended)
 
   pub last_of : (e : Ending) → engine.ending ≡ Some e → shortened x (events_of engine) ≡ shortened old (enough old)
   last_of e ended =
-      subst (λ (o : Experiment Guest). shortened x (events_of engine) ≡ shortened o (enough o)) (sym same)
-      (last_now image (position_at setting.index.now) (point_of setting.points.now) input setting.choice short.valid engine short.reached e ended)
+      subst (λ (o : Experiment Timed). shortened x (events_of engine) ≡ shortened o (enough o)) (sym same)
+      (last_now image input setting short.valid engine short.reached e ended)
 
   pub shortened_of : IsShortened old (shortened_record old)
   shortened_of =
-      subst (λ (o : Experiment Guest). IsShortened o (shortened_record o)) (sym same)
-      (shortened_is image (position_at setting.index.now) (point_of setting.points.now) input setting.choice short.valid)
+      subst (λ (o : Experiment Timed). IsShortened o (shortened_record o)) (sym same)
+      (shortened_is image input setting short.valid)
 
 -- what is seen of a run with the same parts is the same
-pub same_seen : (image old_image : ImageParts) (index old_index : Index) (points old_points : Points) (input old_input : List ℕ) (choice old_choice : Choice) (state : Shortened Guest)
-    → image ≡ old_image → index ≡ old_index → points ≡ old_points → input ≡ old_input → choice ≡ old_choice
-    → machine_view image index points input choice (λ _. state) ≡ machine_view old_image old_index old_points old_input old_choice (λ _. state)
-same_seen image old_image index old_index points old_points input old_input choice old_choice state image_is index_is points_is input_is choice_is = cc
+pub same_seen : (image old_image : ImageParts) (index old_index : Index) (points old_points : Points) (timing old_timing : Timing) (input old_input : List ℕ) (choice old_choice : Choice) (state : Shortened Timed)
+    → image ≡ old_image → index ≡ old_index → points ≡ old_points → timing ≡ old_timing → input ≡ old_input → choice ≡ old_choice
+    → machine_view image index points timing input choice (λ _. state) ≡ machine_view old_image old_index old_points old_timing old_input old_choice (λ _. state)
+same_seen image old_image index old_index points old_points timing old_timing input old_input choice old_choice state image_is index_is points_is timing_is input_is choice_is = cc

@@ -4,6 +4,7 @@
 ghost use Rattle.std.specs.Prelude.{◌≡◌, ◌≤◌, ◌<◌, Some, IfOk, All, length, map};
 ghost use Rattle.coz_types.specs.declared.TheConstants.{HARTS, MAX_OUTPUT, MAX_VISITS};
 ghost use Rattle.machines.specs.KeptVisits.{net_of};
+ghost use Rattle.timing_model.specs.Timing.{usual};
 ghost use Rattle.run_engine.specs.Seen.{machine_view, experiment_of};
 ghost use Rattle.shortened_run.specs.ShortenedRun.{AreUndelayed};
 
@@ -14,8 +15,10 @@ pub use run_engine::Choice;
 use run_engine::{Engine, MarkedSetting, Setting};
 use std::alloc::{AllocError, Global};
 use std::marker::Model;
+use timing_model::Timing;
 
-/// The run of a program in which the instructions of its selected line cost less.
+/// The run of a program on a machine of the timing model, in which the instructions of its
+/// selected line cost less.
 #[derive(Drop)]
 pub struct Short<'a> {
     image: &'a Image<'a>,
@@ -26,12 +29,12 @@ pub struct Short<'a> {
 
 impl<'a> Model for Short<'a> {
     ghost use Rattle.machines.specs.Shortened.{Shortened, shortened};
-    ghost use Rattle.guest_calls.specs.Guest.{Guest};
+    ghost use Rattle.timed_guest.specs.Guest.{Timed};
     ghost use Rattle.run_engine.specs.Engine.{events_of};
     ghost use Rattle.run_engine.specs.Seen.{Seen, view_in};
     ghost use Rattle.shortened_run.specs.ShortenedRun.{IsShort};
 
-    ghost Value = { Seen (Shortened Guest) };
+    ghost Value = { Seen (Shortened Timed) };
 
     ghost view = { λ short. view_in short.image.now short.input.now short.setting
         (λ x. shortened x (events_of short.engine)) };
@@ -44,9 +47,9 @@ impl<'a> Short<'a> {
     ghost use Rattle.machines.specs.Guest.{enough};
     ghost use Rattle.machines.specs.Shortened.{shortened};
     ghost use Rattle.machines.specs.Records.{net_record_of, IsShortened, shortened_record};
-    ghost use Rattle.run_engine.specs.Run.{IsChoice};
+    ghost use Rattle.run_engine.specs.Run.{IsChoice, IsMachine};
 
-    /// A run that is about to begin.
+    /// A run on the usual machine that is about to begin. Fails only if out of memory.
     pub fn new(
         alloc: Global,
         image: &'a Image<'a>,
@@ -57,12 +60,32 @@ impl<'a> Short<'a> {
     ) -> Result<Short<'a>, AllocError>
         requires { IsChoice choice }
         ensures { IfOk result (λ short.
-            short ≡ machine_view image.now index.now points.now input.now choice
+            short ≡ machine_view image.now index.now points.now usual input.now choice
+            (λ x. shortened x 0)) }
+    {
+        Short::on(alloc, image, index, points, Timing::usual(), input, choice)
+    }
+
+    /// A run on a machine that is about to begin. Fails only if out of memory.
+    pub fn on(
+        alloc: Global,
+        image: &'a Image<'a>,
+        index: &'a LineIndex,
+        points: &'a Points,
+        timing: Timing,
+        input: &'a [u8],
+        choice: Choice,
+    ) -> Result<Short<'a>, AllocError>
+        requires choice { IsChoice choice }
+        requires machine { IsMachine timing choice.budget }
+        ensures { IfOk result (λ short.
+            short ≡ machine_view image.now index.now points.now timing input.now choice
             (λ x. shortened x 0)) }
     {
         let setting = Setting {
             index,
             points,
+            timing,
             choice,
         };
         let marked = MarkedSetting::new(alloc, image, setting)?;
@@ -127,7 +150,7 @@ impl<'a> Short<'a> {
 
     /// The output, at most 67,108,864 bytes.
     pub fn output(&self) -> &[u8]
-        ensures bytes { result.now ≡ self.now.state.guest.output }
+        ensures bytes { result.now ≡ self.now.state.guest.guest.output }
         ensures few { length result.now ≤ MAX_OUTPUT }
     {
         self.engine.output()

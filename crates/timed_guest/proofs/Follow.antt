@@ -203,7 +203,7 @@ module _ (t : Timing) (index : Index) (r : Run) where
     unfolding first_guest
     first_alone = refl
 
-    plain_follows : Follows costed y alone own_order.IsOrderly (λ g. Unit {0})
+    pub plain_follows : Follows costed y alone own_order.IsOrderly (λ g. Unit {0})
     plain_follows = record {
       first = first_alone;
       speedup = refl;

@@ -4,6 +4,7 @@ pub mod Sleepers
 pub mod Steps
 pub mod Law
 pub mod Alone
-mod Growing
+pub mod Growing
 pub mod Follow
-mod Held
+pub mod Held
+pub mod Counting

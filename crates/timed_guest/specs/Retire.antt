@@ -9,7 +9,7 @@ use Rattle.rv_decode.specs.declared.Instr.TheVariants.{Ecall}
 use Rattle.guest_calls.specs.Guest as guests
 use Rattle.guest_calls.specs.Calls.{number}
 use Rattle.guest_calls.specs.Retire as own
-use Rattle.timing_laws.specs.Noted.{note_of, is_charged}
+use Rattle.timing_laws.specs.Noted.{note_of, is_charged, last_line}
 use Rattle.timing_laws.specs.Cores.{Turned}
 use Rattle.timing_model.specs.Timing.{charges}
 use Rattle.timing_steps.specs.State.{after_retirement, turn_in}
@@ -95,3 +95,12 @@ is_charged_to selected t h =
 abbrev pub is_selected_by : Option ℕ → Timed → ℕ → Bool
 is_selected_by selected t h =
     has_selected selected (line_at t) (pc_of t h) || is_charged_to selected t h
+
+-- the line that code without a line is charged to as a hart runs it, if the machine charges it
+abbrev pub line_charged : Timed → ℕ → Option ℕ
+line_charged t h =
+    if charges t.beside.timing.charge then (note_of t.beside.notes h).last else None
+
+-- the line that a hart's next instruction counts for: its own, or the one that it is charged to
+abbrev pub line_counted : Timed → ℕ → Option ℕ
+line_counted t h = last_line (line_at t (pc_of t h)) (line_charged t h)

@@ -1,17 +1,18 @@
 //! The guest on a machine.
-ghost use Rattle.std.specs.Prelude.{◌≡◌, ◌+◌, ◌≤◌, ◌<◌, ◌^◌, ◌↔◌, ℕ, [], length, Option, IfOk, IfSome, IsTrue};
+ghost use Rattle.std.specs.Prelude.{◌≡◌, ◌+◌, ◌≤◌, ◌<◌, ◌^◌, ◌↔◌, ℕ, [], length, Option, Some, IfOk, IfSome, IsTrue};
 ghost use Rattle.coz_types.specs.declared.TheConstants.{MAX_OUTPUT};
 ghost use Rattle.cost_table.specs.Costs.{cycles_of};
 ghost use Rattle.guest_calls.specs.Calls.{retirement as own_retirement};
 ghost use Rattle.guest_calls.specs.Quiet.{after_steps, moment_after, IsQuietStep, GoesOnAt};
 ghost use Rattle.guest_calls.specs.Retire.{retire as own_retire};
 ghost use Rattle.guest_memory.specs.Regions.{IsLayout};
+ghost use Rattle.line_index.specs.Keys.{is_at};
 ghost use Rattle.rv_decode.specs.declared.Instr.{Instr};
 ghost use Rattle.timing_laws.specs.Noted.{note_of};
 ghost use Rattle.timing_model.specs.Timing.{IsTiming, IsUsual, cycles_in};
 ghost use Rattle.timing_steps.specs.State.{number_of};
 ghost use Rattle.timed_guest.specs.Guest.{IsMade, first_guest, is_running, is_sleeping, making, pc_of, with_wake};
-ghost use Rattle.timed_guest.specs.Retire.{cycles_of_next, gives_up, is_charged_to, is_selected_by, line_noted, next_of, retire, retirement};
+ghost use Rattle.timed_guest.specs.Retire.{cycles_of_next, gives_up, is_charged_to, is_selected_by, line_charged, line_counted, line_noted, next_of, retire, retirement};
 
 use code_words::Marks;
 use coz_types::{Address, HartId, Image, LineId, Tick};
@@ -173,6 +174,21 @@ impl<'a> TimedGuest<'a> {
         }
     }
 
+    /// The line that the next instruction of a hart that was made counts for: its own, or if it has
+    /// none and the machine charges such code the hart's last line. It is the one line that, if
+    /// selected, has the instruction selected.
+    pub fn line_of(&self, hart: HartId) -> Option<LineId>
+        requires { IsMade self.now hart.0 }
+        ensures line { number_of result ≡ line_counted self.now hart.0 }
+        ensures selected { (selected : ℕ) → is_selected_by (Some selected) self.now hart.0
+            ≡ is_at selected (number_of result) }
+    {
+        match self.index.line_of(self.pc(hart)) {
+            Some(line) => Some(line),
+            None => self.line_charged(hart),
+        }
+    }
+
     /// The number of harts that were made.
     pub fn harts(&self) -> u32
         ensures { result ≡ length self.now.guest.harts }
@@ -309,6 +325,17 @@ impl<'a> TimedGuest<'a> {
     {
         match self.state.timing().charge {
             Charge::Last => self.index.line_of(self.guest.pc(hart)),
+            Charge::Nobody => None,
+        }
+    }
+
+    /// The line that code without a line is charged to as a hart runs it: none on a machine that
+    /// charges none.
+    fn line_charged(&self, hart: HartId) -> Option<LineId>
+        ensures { number_of result ≡ line_charged self.now hart.0 }
+    {
+        match self.state.timing().charge {
+            Charge::Last => self.state.last_line(hart),
             Charge::Nobody => None,
         }
     }

@@ -87,6 +87,22 @@ pub record IsTiming (t : Timing) : Type 0 where
   pub short_slice : t.slice ≤ 1000000000
   pub costs : AreCosts t.costs
 
+-- the costs of `cost_table`
+abbrev pub usual_costs : Costs
+usual_costs = record {
+  integer = 1;
+  jump = 2;
+  load = 3;
+  multiply = 3;
+  atomic = 8;
+  divide = 20;
+  ecall = 40;
+}
+
+-- the machine of `coz profile`
+abbrev pub usual : Timing
+usual = record { cores = 256; slice = 100000; costs = usual_costs; charge = Nobody; seed = 0 }
+
 -- A core for each hart, the costs of `cost_table`, nothing charged to another line, and no jitter.
 -- The slice does not matter: nobody waits for a core.
 pub record IsUsual (t : Timing) : Type 0 where

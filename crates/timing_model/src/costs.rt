@@ -2,7 +2,7 @@
 ghost use Rattle.std.specs.Prelude.{◌≡◌, ◌≤◌, Option};
 ghost use Rattle.rv_decode.specs.declared.Instr.{Instr};
 ghost use Rattle.cost_table.specs.Costs.{cycles_of};
-ghost use Rattle.timing_model.specs.Timing.{class_of_register, class_of, cost_of, cycles_in, AreCosts};
+ghost use Rattle.timing_model.specs.Timing.{class_of_register, class_of, cost_of, cycles_in, usual_costs, AreCosts};
 
 use rv_decode::{Instr, RegOp};
 
@@ -91,6 +91,7 @@ pub struct Costs {
 impl Costs {
     /// The costs of `cost_table`, instruction by instruction.
     pub fn usual() -> Costs
+        ensures costs { result ≡ usual_costs }
         ensures usual { (i : Option Instr) → cycles_in result i ≡ cycles_of i }
         ensures within { AreCosts result }
     {

@@ -1,6 +1,6 @@
 //! The description of a machine.
 ghost use Rattle.std.specs.Prelude.{◌≡◌};
-ghost use Rattle.timing_model.specs.Timing.{IsTiming, IsUsual};
+ghost use Rattle.timing_model.specs.Timing.{usual, IsTiming, IsUsual};
 
 use crate::Costs;
 
@@ -41,8 +41,8 @@ impl Timing {
     /// The machine of `coz profile`: a core for each hart, the costs of `cost_table`, nothing
     /// charged to another line, and no jitter.
     pub fn usual() -> Timing
+        ensures machine { result ≡ usual }
         ensures usual { IsUsual result }
-        ensures slice { result.slice ≡ 100000 }
         ensures within { IsTiming result }
     {
         Timing {

@@ -179,6 +179,15 @@ impl TimingState {
         note_of(&self.notes, hart).count
     }
 
+    /// The line of the last instruction with a line that a hart has retired, or that its maker had
+    /// retired when it was made. A machine that keeps nothing notes none.
+    #[inline]
+    pub fn last_line(&self, hart: HartId) -> Option<LineId>
+        ensures { number_of result ≡ (note_of self.now.notes hart.0).last }
+    {
+        note_of(&self.notes, hart).last
+    }
+
     /// Whether an instruction of this line is charged to the selected line: it has none, and its
     /// hart's last line is the selected one.
     #[inline]

@@ -7,7 +7,7 @@ use Rattle.coz_types.specs.declared.ending.Ending.{Ending}
 use Rattle.machines.specs.Places.{change, is_among}
 use Rattle.machines.specs.Delayed.{Hart, idle_hart, is_any, run, stop, credit}
 use Rattle.delay_credits.specs.Delays.{Delays, at, with_start}
-use Rattle.guest_calls.specs.Guest.{Guest}
+use Rattle.timed_guest.specs.Guest.{Timed}
 use Rattle.run_engine.specs.declared.engine.Event.{Event}
 use Rattle.run_engine.specs.declared.engine.Event.TheVariants.{Woke, Retired}
 use Rattle.run_engine.specs.declared.engine.Turn.{Turn}
@@ -40,7 +40,7 @@ pub others_among : (goes : Bool) (hart k : ℕ) (others : List ℕ) → is_among
 others_among true hart k others e = among_rest hart k others e
 others_among false hart k others e = e
 
-module _ (c : Delays) (g : Guest) (hart : ℕ) (fate : Fate) (others raisers : List ℕ) (can : CanBegin c g hart fate others raisers) where
+module _ (c : Delays) (g : Timed) (hart : ℕ) (fate : Fate) (others raisers : List ℕ) (can : CanBegin c g hart fate others raisers) where
   same_places : length (with_credits others c).harts ≡ length c.harts
   same_places = credits_length others (λ _. credit c.raised) c.harts (λ k among. (can.rest k among).below)
 

@@ -1,5 +1,5 @@
 -- Lists of harts that are credited, started or raise the delay one after another.
-use Rattle.std.proofs.Common.{◌≡◌, ℕ, zero, suc, ◌+◌, ◌-◌, ◌*◌, ◌^◌, ◌≤◌, ◌<◌, Bool, true, false, if◌then◌else◌, ◌==◌, List, [], ◌∷◌, map, drop, length, get_or, refl, sym, ap, ap₂, ◌∙◌, subst, arith, eq-eqb, ne_eqb, Option, Some, None, is_some, ◌⊎◌, inl, inr, add-one}
+use Rattle.std.proofs.Common.{◌≡◌, ℕ, zero, suc, ◌+◌, ◌-◌, ◌*◌, ◌^◌, ◌≤◌, ◌<◌, Bool, true, false, if◌then◌else◌, ◌==◌, List, [], ◌∷◌, map, drop, length, get_or, refl, sym, ap, ap₂, ◌∙◌, subst, arith, eq-eqb, ne_eqb, Option, Some, None, is_some, ◌⊎◌, inl, inr, add-one, add-mul, mul_comm}
 use Rattle.std.proofs.lemmas.Bool.{cases_eq}
 use Rattle.std.proofs.lemmas.List.{drop_all}
 use Rattle.std.proofs.Math.Seq.{drop-cons}
@@ -109,10 +109,10 @@ started_one h now goal hs c b =
     })
 
 -- raising
-pub record IsRaising (ticks : ℕ → ℕ) (moment : ℕ) (goal : Delays) (hs : List ℕ) (c : Delays) : Type 0 where
+pub record IsRaising (most : ℕ) (ticks : ℕ → ℕ) (moment : ℕ) (goal : Delays) (hs : List ℕ) (c : Delays) : Type 0 where
   pub run : AllRun c hs
   pub now : c.latest ≡ moment
-  pub few : c.raised + 3800 * length hs ≤ 10 ^ 17
+  pub few : c.raised + most * length hs ≤ 10 ^ 17
   pub reaches : with_raises ticks hs c ≡ goal
 
 raise_is : (h ticks now : ℕ) (c : Delays) → c.latest ≡ now → with_raise h ticks now c ≡ with_one_raise ticks h c
@@ -133,9 +133,17 @@ runs_raised ticks h k hart = go hart.account hart.load
     go a None = refl
     go a (Some l) = by a l (k == h)
 
-pub raised_one : (ticks : ℕ → ℕ) (h now : ℕ) (goal : Delays) (hs : List ℕ) (c : Delays) → ticks h ≤ 3800 → IsRaising ticks now goal (h ∷ hs) c → IsRaising ticks now goal hs (with_raise h (ticks h) now c)
-raised_one ticks h now goal hs c small b =
-    subst (IsRaising ticks now goal hs) (sym (raise_is h (ticks h) now c b.now))
+one_more : (most n : ℕ) → most * suc n ≡ most * n + most
+one_more most n =
+    let parts : (n + 1) * most ≡ n * most + 1 * most = add-mul n 1 most in
+    let left : most * suc n ≡ suc n * most = mul_comm most (suc n) in
+    let right : most * n ≡ n * most = mul_comm most n in
+    let same : suc n * most ≡ (n + 1) * most = ap (λ (k : ℕ). k * most) (let next : suc n ≡ n + 1 = omega arith in next) in
+    omega (arith, parts, left, right, same)
+
+pub raised_one : (most : ℕ) (ticks : ℕ → ℕ) (h now : ℕ) (goal : Delays) (hs : List ℕ) (c : Delays) → ticks h ≤ most → IsRaising most ticks now goal (h ∷ hs) c → IsRaising most ticks now goal hs (with_raise h (ticks h) now c)
+raised_one most ticks h now goal hs c small b =
+    subst (IsRaising most ticks now goal hs) (sym (raise_is h (ticks h) now c b.now))
     (record {
       run = λ k among.
           let r : Runs c k = b.run k (among_rest h k hs among) in
@@ -144,7 +152,7 @@ raised_one ticks h now goal hs c small b =
             runs = ap has_load (change_all_at idle_hart (raise_hart (ticks h) h) (λ i. refl) k c.harts) ∙ runs_raised (ticks h) h k (hart_at c k) ∙ r.runs;
           };
       now = b.now;
-      few = let f : c.raised + 3800 * suc (length hs) ≤ 10 ^ 17 = b.few in omega arith;
+      few = let f : c.raised + most * suc (length hs) ≤ 10 ^ 17 = b.few in let more = one_more most (length hs) in omega (arith, f, more, small);
       reaches = b.reaches;
     })
 

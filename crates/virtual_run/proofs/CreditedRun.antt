@@ -1,5 +1,5 @@
 -- The delayed run of a program, step by step in code.
-use Rattle.std.proofs.Common.{◌≡◌, ℕ, zero, suc, ◌+◌, ◌-◌, ◌*◌, ◌^◌, ◌≤◌, ◌<◌, Bool, true, false, not, ◌||◌, if◌then◌else◌, ◌==◌, List, [], ◌∷◌, ◌++◌, map, length, get_or, slice_get, filter, nat_le, refl, sym, ap, ap₂, ◌∙◌, subst, arith, Option, Some, None, is_some, option_map, option_to_list, IsSome, eq-eqb, eqb-true, replicate, lit<, mul_comm, ◌⊎◌}
+use Rattle.std.proofs.Common.{◌≡◌, ℕ, zero, suc, ◌+◌, ◌-◌, ◌*◌, ◌^◌, ◌≤◌, ◌<◌, Bool, true, false, not, if◌then◌else◌, ◌==◌, List, [], ◌∷◌, ◌++◌, map, length, get_or, slice_get, filter, nat_le, refl, sym, ap, ap₂, ◌∙◌, subst, arith, Option, Some, None, is_some, option_map, option_to_list, IsSome, eq-eqb, eqb-true, replicate, lit<, mul_comm}
 use Rattle.std.proofs.lemmas.List.{length-map, length-replicate, length-set, map-append}
 use Rattle.std.specs.List.{All}
 use Rattle.std.proofs.lemmas.List.Elements.{All-nil, All-cons, All-head, All-tail}
@@ -10,9 +10,7 @@ use Rattle.coz_types.specs.declared.record.Account.{Account as GivenAccount}
 use Rattle.coz_types.specs.declared.record.Outcome.{Outcome}
 use Rattle.coz_types.specs.declared.record.Visit.{Visit as GivenVisit}
 use Rattle.coz_types.specs.Image.{ImageParts}
-use Rattle.cost_table.specs.Costs.{cycles_of}
 use Rattle.hart_schedule.specs.Keys.{key_of}
-use Rattle.line_index.specs.Index.{position_at}
 use Rattle.progress_points.specs.Points.{point_of}
 use Rattle.machines.specs.declared.Fate.{Fate}
 use Rattle.machines.specs.declared.Fate.TheVariants.{Goes, Waits, Leaves, Sleeps, Ends}
@@ -35,11 +33,11 @@ use Rattle.machines.proofs.Stepping.{begin_frame}
 use Rattle.machines.proofs.Standing.{agrees, few_wakes, in_time, end_in_time, steps_is, last, recorded_delayed, delayed_is, net_is}
 use Rattle.delay_credits.specs.Delays.{Delays, account_as, hart_at, pause_of, at, with_start, none_raised}
 use Rattle.delay_credits.specs.Ticks.{without_work, hart_after_ticks}
-use Rattle.guest_calls.specs.Calls.{retirement}
-use Rattle.guest_calls.specs.Guest.{Guest, making, IsMade, pc_of, with_wake, first_guest, is_running as runs_in}
-use Rattle.guest_calls.specs.Orderly.{IsOrderly}
-use Rattle.guest_calls.specs.Retire.{next_of, retire}
-use Rattle.guest_calls.proofs.Law.{retire-made, running_low, timed_low, running_awake, others_idle, own_trap}
+use Rattle.timed_guest.specs.Guest.{Timed, making, IsMade, pc_of, with_wake}
+use Rattle.guest_calls.specs.Guest as guests
+use Rattle.timed_guest.specs.Orderly.{IsOrderly}
+use Rattle.timed_guest.specs.Retire.{cycles_of_next, retire, retirement}
+use Rattle.timed_guest.proofs.Law.{retire-made, timed_low, running_awake, others_idle, own_trap}
 use Rattle.run_engine.specs.declared.choice.Setting.{Setting}
 use Rattle.run_engine.specs.declared.engine.Event.{Event}
 use Rattle.run_engine.specs.declared.engine.Event.TheVariants.{Woke, Retired}
@@ -47,7 +45,7 @@ use Rattle.run_engine.specs.declared.engine.Engine.{Engine}
 use Rattle.run_engine.specs.Begin.{started_by, keys_at_rest, many, AreIdle}
 use Rattle.run_engine.specs.Ending.{ending_of}
 use Rattle.run_engine.specs.Visits.{Visits, visits_of}
-use Rattle.run_engine.specs.Run.{IsChoice, experiment_in}
+use Rattle.run_engine.specs.Run.{IsChoice, IsSetting, experiment_in}
 use Rattle.run_engine.specs.Engine.{events_of, IsEngineOf, IsSteady, IsFirst}
 use Rattle.run_engine.specs.Advance.{IsRetired, IsWoken, IsAdvance}
 use Rattle.virtual_run.specs.Credited.{raise_ticks, with_credits, with_starts, with_raises, with_rest, with_begun, credits_after, moment_of, credited_by, Runs, AllRun, AllBelow, Holds, CanBegin, CanWake, CanAccountRetirement, CanAccount}
@@ -57,29 +55,29 @@ use Rattle.virtual_run.specs.DelayedRun.{net_due_of, account_in, outcome_of, IsO
 use Rattle.machines.specs.KeptVisits.{visit_as}
 use Rattle.run_engine.proofs.Keys.{has_place, rested_length, next_is}
 use Rattle.run_engine.proofs.Many.{many_few}
-use Rattle.cost_table.proofs.ByOpcode.{few_cycles}
 use Rattle.run_engine.proofs.Begin.{one_at_most}
-use Rattle.run_engine.proofs.Law.{lawful_run, followed_by, steady, reached_next, reached_woken, IsTurn, started_idle, none_own}
+use Rattle.run_engine.proofs.Law.{lawful_in, lawful_on, followed_by, steady, reached_next, reached_woken, IsTurn, started_idle, none_own}
 use Rattle.virtual_run.proofs.Credited.{among_filter, rest_of, with_rest_is, holds_begin}
 use Rattle.virtual_run.proofs.CreditedLists.{at_latest, change_length, raises_length, raises_latest, start_is, starts_run}
 use Rattle.virtual_run.proofs.CreditedBegin.{others_among, begun_places}
-use Rattle.virtual_run.proofs.CreditedBounds.{standing_bounded, cut_few}
-use Rattle.virtual_run.proofs.CreditedPlaces.{IsCounted, standing_has, standing_good}
+use Rattle.virtual_run.proofs.Cuts.{ticks_within, usual_within, delay_within}
+use Rattle.virtual_run.proofs.CountedHarts.{IsUsualGuest, usual_law, usual_counted}
+use Rattle.virtual_run.proofs.CreditedPlaces.{standing_has, standing_good}
 use Rattle.virtual_run.proofs.CreditedSteps.{IsNext, visit_at}
 use Rattle.virtual_run.proofs.CreditedSteps as steps
-use Rattle.virtual_run.proofs.Made.{retire_grows, first_count}
+use Rattle.timing_model.specs.declared.timing.Timing.{Timing}
+use Rattle.timing_model.specs.Timing.{IsUsual}
+use Rattle.run_engine.specs.Engine.{most_ticks}
+use Rattle.run_engine.proofs.Law.{on_machine, first_made}
+use Rattle.run_engine.proofs.Grown.{first_timing, wake_timing}
 
--- the experiment, and that it counts the harts that were made
-pub lawful_with : (image : ImageParts) (input : List ℕ) (setting : Setting) → IsChoice setting.choice → IsLawful (experiment_in image input setting) IsOrderly
-lawful_with image input setting valid = lawful_run image (position_at setting.index.now) (point_of setting.points.now) input setting.choice valid.speedup
+-- a wake keeps what the guest was made with
+wake_making : (t : Timed) (h : ℕ) → making (with_wake h t) ≡ making t
+wake_making t h = ap (λ (timing : Timing). record { guest = guests.making t.guest; timing = timing; index = t.index }) (wake_timing t h)
 
-counted_with : (image : ImageParts) (input : List ℕ) (setting : Setting) → IsCounted (experiment_in image input setting) IsOrderly (λ g. length g.harts)
-counted_with image input setting = record {
-  first = first_count image input setting.choice.output_limit setting.choice.layout;
-  made = λ g h good runs. (running_low g h good runs).0;
-  grows = λ g h v good runs. retire_grows g h v good;
-  woken = λ g h good asleep. ((timed_low g h good (ap (λ (b : Bool). b || runs_in g h) asleep)).0, length-set g.harts h _);
-}
+-- the experiment is lawful
+pub lawful_with : (image : ImageParts) (input : List ℕ) (setting : Setting) → IsSetting setting → IsLawful (experiment_in image input setting) IsOrderly
+lawful_with image input setting valid = lawful_in image input setting valid.choice.speedup
 
 one_bit : (b : Bool) → (if b then true else false) ≡ true → b ≡ true
 one_bit true e = refl
@@ -118,13 +116,13 @@ trap_fate (Sleeps moment) o v r n b trap is = absurd (no_trap o v (not r) (nat_l
 trap_fate (Ends e) o v r n b trap is = let same : e ≡ Trapped trap = cc in ap Ends same
 
 module _ (image : ImageParts) (input : List ℕ) (setting : Setting) (engine : Engine) (credits : Delays) (now : ℕ) (p : IsPaced image input setting engine credits now) where
-  abbrev x : Experiment Guest
+  abbrev x : Experiment Timed
   x = experiment_in image input setting
 
-  abbrev d : Delayed Guest
+  abbrev d : Delayed Timed
   d = standing x (events_of engine)
 
-  abbrev s : Shortened Guest
+  abbrev s : Shortened Timed
   s = shortened x (events_of engine)
 
   law : IsLawful x IsOrderly
@@ -134,22 +132,22 @@ module _ (image : ImageParts) (input : List ℕ) (setting : Setting) (engine : E
   agree = agrees x IsOrderly law (events_of engine)
 
   pub ending_now : d.ending ≡ engine.ending
-  ending_now = agree.ending ∙ ap (λ (t : Shortened Guest). t.ending) p.reached.reached.state
+  ending_now = agree.ending ∙ ap (λ (t : Shortened Timed). t.ending) p.reached.reached.state
 
   pub wakes_now : d.wakes ≡ engine.wakes
-  wakes_now = agree.wakes ∙ ap (λ (t : Shortened Guest). t.wakes) p.reached.reached.state
+  wakes_now = agree.wakes ∙ ap (λ (t : Shortened Timed). t.wakes) p.reached.reached.state
 
   pub retired_now : d.retired ≡ engine.retired
-  retired_now = agree.retired ∙ ap (λ (t : Shortened Guest). t.retired) p.reached.reached.state
+  retired_now = agree.retired ∙ ap (λ (t : Shortened Timed). t.retired) p.reached.reached.state
 
   pub events_now : events d ≡ events_of engine
   events_now = ap₂ (λ (m n : ℕ). m + n) retired_now wakes_now
 
   pub starts_now : d.starts ≡ engine.starts
-  starts_now = agree.starts ∙ ap (λ (t : Shortened Guest). t.starts) p.reached.reached.state
+  starts_now = agree.starts ∙ ap (λ (t : Shortened Timed). t.starts) p.reached.reached.state
 
   short_guest : s.guest ≡ engine.guest
-  short_guest = ap (λ (t : Shortened Guest). t.guest) p.reached.reached.state
+  short_guest = ap (λ (t : Shortened Timed). t.guest) p.reached.reached.state
 
   pub guest_now : d.guest ≡ engine.guest
   guest_now = agree.guest ∙ short_guest
@@ -157,36 +155,65 @@ module _ (image : ImageParts) (input : List ℕ) (setting : Setting) (engine : E
   pub now_is : now ≡ d.now
   now_is = p.moment
 
-  pub harts_now : length d.harts ≡ length engine.guest.harts
-  harts_now = standing_has x IsOrderly law (λ g. length g.harts) (counted_with image input setting) (events_of engine) ∙ ap (λ (g : Guest). length g.harts) guest_now
+  -- on the usual machine there is an account for each hart
+  pub harts_now : IsUsual setting.timing → length d.harts ≡ length engine.guest.guest.harts
+  harts_now usual =
+      standing_has x IsUsualGuest (usual_law image input setting p.valid.choice.speedup usual) (λ g. length g.guest.harts) (usual_counted image input setting p.valid.choice.speedup usual) (events_of engine)
+      ∙ ap (λ (g : Timed). length g.guest.harts) guest_now
 
-  -- the delay is at most 3800 ticks a start
-  delay_few : d.delay ≤ 3800 * d.starts
-  delay_few = standing_bounded x IsOrderly law 3800 (cut_few x 40 95 (λ g h. few_cycles (next_of g h)) p.valid.speedup) (events_of engine)
+  abbrev pub most : ℕ
+  most = most_ticks setting.timing
+
+  -- the delay is at most the ticks of the dearest instruction for each start
+  delay_few : d.delay ≤ most * d.starts
+  delay_few = delay_within image input setting p.valid (events_of engine)
 
   -- each wake followed a retirement
   pub wakes_few : engine.wakes ≤ engine.retired
-  wakes_few = followed_by image (position_at setting.index.now) (point_of setting.points.now) input setting.choice p.valid engine p.reached
+  wakes_few = followed_by image input setting p.valid engine p.reached
 
-  pub starts_few : engine.starts ≤ 2 * 10 ^ 12 + 256
+  pub starts_few : engine.starts ≤ 2 * setting.choice.budget + 256
   starts_few =
       let most : many engine.schedule ≤ length engine.schedule = many_few engine.schedule in
       let room : length engine.schedule ≡ 256 = p.reached.room in
       let few : engine.starts ≤ events_of engine + many engine.schedule = p.reached.few in
       let below : engine.retired ≤ setting.choice.budget = p.reached.retired in
-      let budget : setting.choice.budget ≤ 10 ^ 12 = p.valid.few in
-      omega (arith, wakes_few)
+      omega (arith, wakes_few, most, room, few, below)
 
-  pub raised_few : credits.raised ≤ 10 ^ 16
-  raised_few =
-      let few : d.delay ≤ 3800 * d.starts = delay_few in
-      let starts : d.starts ≡ engine.starts = starts_now in
-      let most : engine.starts ≤ 2 * 10 ^ 12 + 256 = starts_few in
+  raised_of : credits.raised ≤ most * engine.starts
+  raised_of =
+      let few : d.delay ≤ most * d.starts = delay_few in
       let is : credits.raised ≡ d.delay = p.holds.raised in
-      omega arith
+      subst (λ (n : ℕ). credits.raised ≤ most * n) starts_now (omega (arith, few, is))
+
+  pub raised_few : credits.raised ≤ 41 * 10 ^ 15
+  raised_few =
+      let few : most * engine.starts ≤ 41 * 10 ^ 15 = ticks_within setting.timing setting.choice.budget engine.starts p.valid.machine p.valid.choice.few (omega (arith, starts_few)) in
+      omega (arith, raised_of, few)
+
+  pub raised_usual : IsUsual setting.timing → credits.raised ≤ 10 ^ 16
+  raised_usual usual =
+      let budget : setting.choice.budget ≤ 10 ^ 12 = p.valid.choice.few in
+      let few : most * engine.starts ≤ 10 ^ 16 = usual_within setting.timing engine.starts usual (omega (arith, starts_few, budget)) in
+      omega (arith, raised_of, few)
+
+  first_machine : x.first.beside.timing ≡ setting.timing
+  first_machine = first_timing image input setting.choice.output_limit setting.choice.layout setting.timing setting.index.now
+
+  -- a hart is due in time
+  due_few : (h due : ℕ) → key_of engine.schedule h ≡ Some due → due ≤ 51 * 10 ^ 15
+  due_few h due has =
+      let soon : due ≤ 10 ^ 16 + most * (events_of engine + 1) = subst (λ (t : Timing). due ≤ 10 ^ 16 + most_ticks t * (events_of engine + 1)) first_machine (p.reached.within h due has) in
+      let below : engine.retired ≤ setting.choice.budget = p.reached.retired in
+      let few : most * (events_of engine + 1) ≤ 41 * 10 ^ 15 = ticks_within setting.timing setting.choice.budget (events_of engine + 1) p.valid.machine p.valid.choice.few (omega (arith, wakes_few, below)) in
+      omega (arith, soon, few)
+
+  -- the machine of the engine
+  pub machine_now : engine.guest.beside.timing ≡ setting.timing
+  machine_now = (on_machine image input setting p.valid engine p.reached).timing
 
   pub is_steady : engine.ending ≡ None → IsSteady engine
-  is_steady none = steady image (position_at setting.index.now) (point_of setting.points.now) input setting.choice p.valid engine p.reached none
+  is_steady none = steady image input setting p.valid engine p.reached none
 
   module _ (new : Engine) (h : ℕ) (fate : Fate) (delay : ℕ) (given : delay ≡ credits.raised) (goes : engine.ending ≡ None) (a : IsRetired setting engine h fate delay new) where
     abbrev t : Turn
@@ -203,12 +230,8 @@ module _ (image : ImageParts) (input : List ℕ) (setting : Setting) (engine : E
       holds = p.holds;
     }
 
-    pub time_few : new.time ≤ 2 * 10 ^ 16
-    time_few =
-        let due : new.time ≤ 10 ^ 16 + 4000 * (events_of engine + 1) = p.reached.within h new.time a.turn in
-        let below : engine.retired ≤ setting.choice.budget = p.reached.retired in
-        let budget : setting.choice.budget ≤ 10 ^ 12 = p.valid.few in
-        omega (arith, wakes_few)
+    pub time_few : new.time ≤ 51 * 10 ^ 15
+    time_few = due_few h new.time a.turn
 
     pub hart_below : h < length credits.harts
     hart_below = subst (λ (n : ℕ). h < n) (p.reached.room ∙ sym p.room) (has_place engine.schedule h new.time a.turn)
@@ -238,7 +261,7 @@ module _ (image : ImageParts) (input : List ℕ) (setting : Setting) (engine : E
     stopped_raised = ap (λ (c : Delays). c.raised) (with_rest_is h fate later_now credits)
 
     was_awake : x.guest.is_sleeping s.guest h ≡ false
-    was_awake = ap (λ (g : Guest). x.guest.is_sleeping g h) short_guest ∙ running_awake engine.guest h a.running
+    was_awake = ap (λ (g : Timed). x.guest.is_sleeping g h) short_guest ∙ running_awake engine.guest h a.running
 
     turned : IsTurn engine.guest engine.schedule h new.time
     turned = let st : IsSteady engine = is_steady goes in record { orderly = st.orderly; timed = st.timed; running = a.running; room = st.room; turn = a.turn }
@@ -250,11 +273,11 @@ module _ (image : ImageParts) (input : List ℕ) (setting : Setting) (engine : E
 
     still_idle : (k : ℕ) → is_among k new.started ≡ true → is_timed x.guest s.guest k ≡ false
     still_idle k among =
-        ap (λ (g : Guest). is_timed x.guest g k) short_guest
-        ∙ others_idle engine.guest h new.time turned.orderly a.running k (ap (λ (r : Retirement Guest). is_among k r.others) (sym a.retires) ∙ among)
+        ap (λ (g : Timed). is_timed x.guest g k) short_guest
+        ∙ others_idle engine.guest h new.time turned.orderly a.running k (ap (λ (r : Retirement Timed). is_among k r.others) (sym a.retires) ∙ among)
 
     pub reached_new : IsEngineOf x new
-    reached_new = reached_next image (position_at setting.index.now) (point_of setting.points.now) input setting.choice p.valid engine p.reached new goes (a.moved (first_guest image input setting.choice.output_limit setting.choice.layout) s.dues p.reached.reached.dues) a.room (ap (λ (v : Visits). v.limit) a.visits) a.unfull a.retired a.wakes a.few a.within
+    reached_new = reached_next image input setting p.valid engine p.reached new goes (a.moved x.first s.dues p.reached.reached.dues) a.room (ap (λ (v : Visits). v.limit) a.visits) a.unfull a.retired a.wakes a.few a.within
 
     next_count : events_of new ≡ suc (events_of engine)
     next_count = omega (arith, a.retired, a.wakes)
@@ -263,33 +286,36 @@ module _ (image : ImageParts) (input : List ℕ) (setting : Setting) (engine : E
     after_is =
         (agrees x IsOrderly law (suc (events_of engine))).ending
         ∙ ap (λ (n : ℕ). (shortened x n).ending) (sym next_count)
-        ∙ ap (λ (t : Shortened Guest). t.ending) reached_new.reached.state
+        ∙ ap (λ (t : Shortened Timed). t.ending) reached_new.reached.state
 
     after_starts : (standing x (suc (events_of engine))).starts ≡ new.starts
     after_starts =
         (agrees x IsOrderly law (suc (events_of engine))).starts
         ∙ ap (λ (n : ℕ). (shortened x n).starts) (sym next_count)
-        ∙ ap (λ (t : Shortened Guest). t.starts) reached_new.reached.state
+        ∙ ap (λ (t : Shortened Timed). t.starts) reached_new.reached.state
 
-    abbrev r : Retirement Guest
+    abbrev r : Retirement Timed
     r = retirement new.guest fate new.started
 
     retires_as : r ≡ x.guest.retire s.guest h new.time
-    retires_as = a.retires ∙ ap (λ (g : Guest). retire g h new.time) (sym short_guest)
+    retires_as = a.retires ∙ ap (λ (g : Timed). retire g h new.time) (sym short_guest)
 
-    raises_few : new.ending ≡ None → credits.raised + 3800 * length new.selected ≤ 10 ^ 17
+    new_machine : new.guest.beside.timing ≡ setting.timing
+    new_machine = (on_machine image input setting p.valid new reached_new).timing
+
+    raises_few : new.ending ≡ None → credits.raised + most_ticks new.guest.beside.timing * length new.selected ≤ 10 ^ 17
     raises_few none =
-        let few : d.delay ≤ 3800 * d.starts = delay_few in
-        let is : credits.raised ≡ d.delay = p.holds.raised in
+        let raised : credits.raised ≤ 41 * 10 ^ 15 = raised_few in
         let more : (standing x (suc (events_of engine))).starts ≡ d.starts + length (filter (x.guest.is_selected new.guest) (started_by h fate new.started)) = steps.starts_next x IsOrderly law (events_of engine) t later_now credits next was_awake r retires_as (after_is ∙ none) in
         let same : length new.selected ≡ length (filter (x.guest.is_selected new.guest) (started_by h fate new.started)) = ap length (a.selected none) in
         let starts : (standing x (suc (events_of engine))).starts ≡ new.starts = after_starts in
-        let most : many new.schedule ≤ length new.schedule = many_few new.schedule in
+        let most_due : many new.schedule ≤ length new.schedule = many_few new.schedule in
         let room : length new.schedule ≡ 256 = a.room in
         let kept : new.starts ≤ events_of new + many new.schedule = a.few in
         let below : new.retired ≤ setting.choice.budget = reached_new.retired in
-        let budget : setting.choice.budget ≤ 10 ^ 12 = p.valid.few in
-        omega (arith, wakes_few, a.retired, a.wakes)
+        let few : most * length new.selected ≤ 41 * 10 ^ 15 =
+        ticks_within setting.timing setting.choice.budget (length new.selected) p.valid.machine p.valid.choice.few (omega (arith, wakes_few, below, most_due, room, kept, starts, more, same, a.retired, a.wakes)) in
+        subst (λ (t : Timing). credits.raised + most_ticks t * length new.selected ≤ 10 ^ 17) (sym new_machine) (omega (arith, raised, few))
 
     -- if the run goes on, what it started can begin
     pub can_begin : new.ending ≡ None → CanBegin stopped new.guest h fate new.started new.selected
@@ -316,12 +342,12 @@ module _ (image : ImageParts) (input : List ℕ) (setting : Setting) (engine : E
     settled = credits_after new.ending (raise_ticks new.guest setting.choice.speedup) h fate new.started new.selected stopped
 
     ticks_are : (k : ℕ) → raise_ticks new.guest setting.choice.speedup k ≡ x.speedup * x.guest.cycles new.guest k
-    ticks_are k = mul_comm (cycles_of (next_of new.guest k)) setting.choice.speedup
+    ticks_are k = mul_comm (cycles_of_next new.guest k) setting.choice.speedup
 
     settled_holds : (o : Option Ending) → new.ending ≡ o
         → Holds (credits_after o (raise_ticks new.guest setting.choice.speedup) h fate new.started new.selected stopped) (standing x (suc (events_of engine)))
         × (length (credits_after o (raise_ticks new.guest setting.choice.speedup) h fate new.started new.selected stopped).harts ≡ 256)
-    settled_holds (Some e) is = (steps.holds_ended x IsOrderly law (events_of engine) t later_now credits next was_awake e fate (ap (λ (r : Retirement Guest). r.fate) retires_as) (after_is ∙ is), stopped_places)
+    settled_holds (Some e) is = (steps.holds_ended x IsOrderly law (events_of engine) t later_now credits next was_awake e fate (ap (λ (r : Retirement Timed). r.fate) retires_as) (after_is ∙ is), stopped_places)
     settled_holds None is =
         let ticks : ℕ → ℕ = raise_ticks new.guest setting.choice.speedup in (
           subst (λ (hs : List ℕ). Holds (with_begun ticks h fate new.started hs stopped) (standing x (suc (events_of engine)))) (sym (a.selected is))
@@ -336,7 +362,7 @@ module _ (image : ImageParts) (input : List ℕ) (setting : Setting) (engine : E
         ap (λ (v : Visits). map visit_as v.kept) a.visits
         ∙ map-append visit_as engine.visits.kept (visits_of point h later_now delay)
         ∙ ap₂ (λ (vs ws : List Visit). vs ++ ws) p.visits
-        (visit_kept point h later_now delay ∙ ap₂ (λ (m : ℕ) (g : Guest). visit_at x h later_now m g) given (sym short_guest))
+        (visit_kept point h later_now delay ∙ ap₂ (λ (m : ℕ) (g : Timed). visit_at x h later_now m g) given (sym short_guest))
         ∙ sym (steps.visits_next x IsOrderly law (events_of engine) t later_now credits next was_awake)
 
     latest_is : (o : Option Ending) → (credits_after o (raise_ticks new.guest setting.choice.speedup) h fate new.started new.selected stopped).latest ≡ later_now
@@ -347,14 +373,14 @@ module _ (image : ImageParts) (input : List ℕ) (setting : Setting) (engine : E
 
     -- the fields stand for the state after the retirement
     soon_new : later_now ≤ 10 ^ 17
-    soon_new = let few : credits.raised ≤ 10 ^ 16 = raised_few in let time = time_few in omega (arith, few, time, given)
+    soon_new = let few : credits.raised ≤ 41 * 10 ^ 15 = raised_few in let time = time_few in omega (arith, few, time, given)
 
     -- a trap is that of the hart that retired
     trap_new : (e : Ending) → new.ending ≡ Some e → IsOfAHart e
     trap_new e is =
         of_a_hart e (λ trap trapped.
         let fate_is : fate ≡ Ends (Trapped trap) = trap_fate fate _ _ _ new.retired setting.choice.budget trap (sym a.ending ∙ is ∙ ap Some trapped) in
-        let own : trap.hart.0 ≡ h = own_trap engine.guest h new.time turned.orderly a.running trap (ap (λ (r : Retirement Guest). r.fate) (sym a.retires) ∙ fate_is) in
+        let own : trap.hart.0 ≡ h = own_trap engine.guest h new.time turned.orderly a.running trap (ap (λ (r : Retirement Timed). r.fate) (sym a.retires) ∙ fate_is) in
         let below = subst (λ (n : ℕ). h < n) p.room hart_below in
         omega (arith, own, below))
 
@@ -379,7 +405,7 @@ module _ (image : ImageParts) (input : List ℕ) (setting : Setting) (engine : E
           moment = sym (latest_is new.ending) ∙ ap (λ (c : Delays). c.latest) (sym is) ∙ holds.latest;
           soon = soon_new;
           trap = trap_new;
-          made = ap (λ (r : Retirement Guest). making r.guest) a.retires ∙ retire-made engine.guest h new.time turned.orderly a.running ∙ p.made;
+          made = ap (λ (r : Retirement Timed). making r.guest) a.retires ∙ retire-made engine.guest h new.time turned.orderly a.running ∙ p.made;
           selected = selected_new new.ending refl ∙ ap (λ (n : ℕ). filter (x.guest.is_selected new.guest) (before x n).harts) (sym next_count);
         }
 
@@ -387,7 +413,7 @@ module _ (image : ImageParts) (input : List ℕ) (setting : Setting) (engine : E
     pub steps_next : Steps x d (standing x (events_of new))
     steps_next =
         let by = steps_is x IsOrderly law (events_of engine) t (ending_now ∙ goes) next.turn in
-        subst (λ (n : ℕ). Steps x d (standing x n)) (sym next_count) (by.retires (ap (λ (g : Guest). x.guest.is_sleeping g h) agree.guest ∙ was_awake)).1
+        subst (λ (n : ℕ). Steps x d (standing x n)) (sym next_count) (by.retires (ap (λ (g : Timed). x.guest.is_sleeping g h) agree.guest ∙ was_awake)).1
 
     pub can_account_retirement : CanAccountRetirement credits new h fate later_now
     can_account_retirement = record { below = hart_below; later = is_later; running = hart_runs; unpaused = hart_unpaused; can = can_begin }
@@ -409,14 +435,10 @@ module _ (image : ImageParts) (input : List ℕ) (setting : Setting) (engine : E
     }
 
     was_asleep : x.guest.is_sleeping s.guest h ≡ true
-    was_asleep = ap (λ (g : Guest). x.guest.is_sleeping g h) short_guest ∙ a.asleep
+    was_asleep = ap (λ (g : Timed). x.guest.is_sleeping g h) short_guest ∙ a.asleep
 
-    pub wake_few : due ≤ 2 * 10 ^ 16
-    wake_few =
-        let soon : due ≤ 10 ^ 16 + 4000 * (events_of engine + 1) = p.reached.within h due a.turn in
-        let below : engine.retired ≤ setting.choice.budget = p.reached.retired in
-        let budget : setting.choice.budget ≤ 10 ^ 12 = p.valid.few in
-        omega (arith, wakes_few)
+    pub wake_few : due ≤ 51 * 10 ^ 15
+    wake_few = due_few h due a.turn
 
     wake_below : h < length credits.harts
     wake_below = subst (λ (n : ℕ). h < n) (p.reached.room ∙ sym p.room) (has_place engine.schedule h due a.turn)
@@ -432,8 +454,8 @@ module _ (image : ImageParts) (input : List ℕ) (setting : Setting) (engine : E
 
     reached_wake : IsEngineOf x new
     reached_wake =
-        reached_woken image (position_at setting.index.now) (point_of setting.points.now) input setting.choice p.valid engine p.reached new goes
-        (a.moved (first_guest image input setting.choice.output_limit setting.choice.layout) s.dues p.reached.reached.dues) a.room same_visits same_retired a.wakes a.few a.within
+        reached_woken image input setting p.valid engine p.reached new goes
+        (a.moved x.first s.dues p.reached.reached.dues) a.room same_visits same_retired a.wakes a.few a.within
 
     pub count_wake : events_of new ≡ events_of engine + 1
     count_wake = omega (arith, same_retired, a.wakes)
@@ -442,7 +464,7 @@ module _ (image : ImageParts) (input : List ℕ) (setting : Setting) (engine : E
     wake_count = omega (arith, count_wake)
 
     wake_guest : new.guest ≡ x.guest.wake s.guest h
-    wake_guest = a.guest ∙ ap (λ (g : Guest). with_wake h g) (sym short_guest)
+    wake_guest = a.guest ∙ ap (λ (g : Timed). with_wake h g) (sym short_guest)
 
     wake_selected : new.selected ≡ filter (x.guest.is_selected new.guest) (h ∷ [])
     wake_selected = a.selected
@@ -456,19 +478,22 @@ module _ (image : ImageParts) (input : List ℕ) (setting : Setting) (engine : E
         let here : AllBelow (at wake_now credits) (h ∷ []) = λ k among. let is : k ≡ h = eqb-true k h (one_bit (k == h) among) in omega (arith, is, same, wake_below) in
         let st : IsSteady engine = is_steady goes in
         let low = timed_low engine.guest h st.orderly (st.timed h ∙ ap is_some a.turn) in
-        let made : length new.guest.harts ≡ length engine.guest.harts = ap (λ (g : Guest). length g.harts) a.guest ∙ length-set engine.guest.harts h _ in
-        let raised : credits.raised ≤ 10 ^ 16 = raised_few in
+        let made : length new.guest.guest.harts ≡ length engine.guest.guest.harts = ap (λ (g : Timed). length g.guest.harts) a.guest ∙ length-set engine.guest.guest.harts h _ in
+        let raised : credits.raised ≤ 41 * 10 ^ 15 = raised_few in
+        let timing : new.guest.beside.timing ≡ setting.timing = ap (λ (g : Timed). g.beside.timing) a.guest ∙ wake_timing engine.guest h ∙ machine_now in
         let one : length new.selected ≤ 1 = subst (λ (hs : List ℕ). length hs ≤ 1) (sym wake_selected) (one_at_most (x.guest.is_selected new.guest) h) in
         record {
           below = wake_below;
           later = steps.later x IsOrderly law (events_of engine) wake_turn wake_now credits next_wake;
           runs = λ k among. starts_run (h ∷ []) (at wake_now credits) here k (rw (only_here k among, eq-eqb h h refl) refl);
           made = λ k among. let is : k ≡ h = only_here k among in omega (arith, is, low.0, made);
-          few = omega (arith, raised, one);
+          few =
+              let few : most * length new.selected ≤ 41 * 10 ^ 15 = ticks_within setting.timing setting.choice.budget (length new.selected) p.valid.machine p.valid.choice.few (omega (arith, one)) in
+              subst (λ (t : Timing). credits.raised + most_ticks t * length new.selected ≤ 10 ^ 17) (sym timing) (omega (arith, raised, few));
         }
 
     ticks_wake : (k : ℕ) → raise_ticks new.guest setting.choice.speedup k ≡ x.speedup * x.guest.cycles new.guest k
-    ticks_wake k = mul_comm (cycles_of (next_of new.guest k)) setting.choice.speedup
+    ticks_wake k = mul_comm (cycles_of_next new.guest k) setting.choice.speedup
 
     abbrev waked : Delays
     waked = credited.with_wake (raise_ticks new.guest setting.choice.speedup) h new.selected (at wake_now credits)
@@ -487,7 +512,7 @@ module _ (image : ImageParts) (input : List ℕ) (setting : Setting) (engine : E
     pub paced_wake : (after : Delays) → after ≡ waked → IsPaced image input setting new after wake_now
     paced_wake after is =
         let holds : Holds after (standing x (events_of new)) = subst (λ (n : ℕ). Holds after (standing x n)) (sym wake_count) (subst (λ (c : Delays). Holds c (standing x (suc (events_of engine)))) (sym is) holds_waked) in
-        let few : credits.raised ≤ 10 ^ 16 = raised_few in
+        let few : credits.raised ≤ 41 * 10 ^ 15 = raised_few in
         record {
           valid = p.valid;
           reached = reached_wake;
@@ -502,7 +527,7 @@ module _ (image : ImageParts) (input : List ℕ) (setting : Setting) (engine : E
               ∙ ap (λ (c : Delays). c.latest) (sym is) ∙ holds.latest;
           soon = omega (arith, few, wake_few, given);
           trap = λ e ended. absurd (let no : ◌≡◌ {A = Option Ending} None (Some e) = sym still_goes ∙ ended in cc);
-          made = ap making a.guest ∙ p.made;
+          made = ap making a.guest ∙ wake_making engine.guest h ∙ p.made;
           selected =
               wake_selected
               ∙ ap (filter (x.guest.is_selected new.guest)) (sym (wakes_begins x IsOrderly law (events_of engine) wake_turn (ending_now ∙ goes) next_wake.turn was_asleep))
@@ -515,7 +540,7 @@ module _ (image : ImageParts) (input : List ℕ) (setting : Setting) (engine : E
         (steps.passes_wake x IsOrderly law (events_of engine) wake_turn wake_now credits next_wake was_asleep, steps.goes_wake x IsOrderly law (events_of engine) wake_turn wake_now credits next_wake was_asleep)
 
   -- an event
-  pub event_few : (new : Engine) (event : Event) (delay : ℕ) → delay ≡ credits.raised → engine.ending ≡ None → IsAdvance setting engine event delay new → moment_of event new ≤ 2 * 10 ^ 16
+  pub event_few : (new : Engine) (event : Event) (delay : ℕ) → delay ≡ credits.raised → engine.ending ≡ None → IsAdvance setting engine event delay new → moment_of event new ≤ 51 * 10 ^ 15
   event_few new (Woke turn) delay given goes a = wake_few new turn.hart.0 turn.due delay given goes a
   event_few new (Retired retired) delay given goes a = time_few new retired.hart.0 retired.fate delay given goes a
 
@@ -579,7 +604,7 @@ total_within now delay a (Some l) None e = elim e [ ]
 
 -- what the methods that change nothing give
 module _ (image : ImageParts) (input : List ℕ) (setting : Setting) (engine : Engine) (credits : Delays) (now : ℕ) (p : IsPaced image input setting engine credits now) where
-  abbrev seen : Delayed Guest
+  abbrev seen : Delayed Timed
   seen = standing (experiment_in image input setting) (events_of engine)
 
   pub due_ended : (h : ℕ) (e : Ending) → engine.ending ≡ Some e → None ≡ net_due_of seen h
@@ -595,11 +620,14 @@ module _ (image : ImageParts) (input : List ℕ) (setting : Setting) (engine : E
   pub latest_now : credits.latest ≡ now
   latest_now = p.holds.latest ∙ sym p.moment
 
-  pub account_some : (h : ℕ) (given : GivenAccount) → h < length engine.guest.harts → account_as given ≡ (hart_at (at now credits) h).account → Some (account_as given) ≡ account_in seen h
-  account_some h given made is =
-      let hart : Hart = get_or seen.harts h idle_hart in
-      let there : h < length seen.harts = rw (harts_now image input setting engine credits now p) made in
-      ap Some (is ∙ ap (λ (c : Delays). (hart_at c h).account) (at_latest credits now latest_now) ∙ ap (λ (o : Hart). o.account) (p.holds.harts h) ∙ account_held hart)
+  -- the account of a hart
+  pub account_is : (h : ℕ) (given : GivenAccount) → account_as given ≡ (hart_at (at now credits) h).account → account_as given ≡ (get_or seen.harts h idle_hart).account
+  account_is h given is = is ∙ ap (λ (c : Delays). (hart_at c h).account) (at_latest credits now latest_now) ∙ ap (λ (o : Hart). o.account) (p.holds.harts h) ∙ account_held (get_or seen.harts h idle_hart)
+
+  pub account_some : IsUsual setting.timing → (h : ℕ) (given : GivenAccount) → h < length engine.guest.guest.harts → account_as given ≡ (hart_at (at now credits) h).account → Some (account_as given) ≡ account_in seen h
+  account_some usual h given made is =
+      let there : h < length seen.harts = rw (harts_now image input setting engine credits now p usual) made in
+      ap Some (account_is h given is)
       ∙ sym (ap (λ (o : Option Hart). option_map (λ (h : Hart). h.account) o) (place_some seen.harts h there))
 
   -- an account is at most the global delay
@@ -610,15 +638,15 @@ module _ (image : ImageParts) (input : List ℕ) (setting : Setting) (engine : E
       subst (λ (a : Account). total a ≤ seen.delay) (sym same)
       (total_within seen.now seen.delay hart.account hart.load (get_or (shortened (experiment_in image input setting) (events_of engine)).dues h None) ((agree image input setting engine credits now p).harts h))
 
-  pub account_none : (h : ℕ) → length engine.guest.harts ≤ h → ◌≡◌ {A = Option Account} None (account_in seen h)
-  account_none h past =
-      let there : length seen.harts ≤ h = rw (harts_now image input setting engine credits now p) past in
+  pub account_none : IsUsual setting.timing → (h : ℕ) → length engine.guest.guest.harts ≤ h → ◌≡◌ {A = Option Account} None (account_in seen h)
+  account_none usual h past =
+      let there : length seen.harts ≤ h = rw (harts_now image input setting engine credits now p usual) past in
       sym (ap (λ (o : Option Hart). option_map (λ (h : Hart). h.account) o) (place_none seen.harts h there))
 
-  pub harts_few : length engine.guest.harts ≤ 256
+  pub harts_few : length engine.guest.guest.harts ≤ 256
   harts_few =
       let good : IsOrderly seen.guest = standing_good (experiment_in image input setting) IsOrderly (lawful_with image input setting p.valid) (events_of engine) in
-      subst (λ (g : Guest). length g.harts ≤ 256) (guest_now image input setting engine credits now p) good.few
+      subst (λ (g : Timed). length g.guest.harts ≤ 256) (guest_now image input setting engine credits now p) good.guest.few
 
   pub visits_in_time : All (λ (v : Visit). v.delay ≤ v.time) seen.visits
   visits_in_time = in_time (experiment_in image input setting) IsOrderly (lawful_with image input setting p.valid) (events_of engine)
@@ -636,7 +664,7 @@ module _ (image : ImageParts) (input : List ℕ) (setting : Setting) (engine : E
   pub outcome_small : (e : Ending) (delay : ℕ) → engine.ending ≡ Some e → IsSmall (record { ending = e; time = now; delay = delay; retired = engine.retired; starts = engine.starts })
   outcome_small e delay is =
       let below : engine.retired ≤ setting.choice.budget = p.reached.retired in
-      let budget : setting.choice.budget ≤ 10 ^ 12 = p.valid.few in
+      let budget : setting.choice.budget ≤ 10 ^ 12 = p.valid.choice.few in
       let most : many engine.schedule ≤ length engine.schedule = many_few engine.schedule in
       let room : length engine.schedule ≡ 256 = p.reached.room in
       let kept : engine.starts ≤ events_of engine + many engine.schedule = p.reached.few in
@@ -651,7 +679,7 @@ module _ (image : ImageParts) (input : List ℕ) (setting : Setting) (engine : E
   outcome_none is = rw (ending_now image input setting engine credits now p, is) refl
 
 -- what contracts see of the fields
-abbrev pub seen_of : ImageParts → List ℕ → Setting → Engine → Seen (Delayed Guest)
+abbrev pub seen_of : ImageParts → List ℕ → Setting → Engine → Seen (Delayed Timed)
 seen_of image input setting engine = view_in image input setting (λ x. standing x (events_of engine))
 
 pub none_of : (o : Option Ending) → is_some o ≡ false → o ≡ None
@@ -663,81 +691,81 @@ some_none o some none = let no : false ≡ true = sym (ap is_some none) ∙ some
 
 module _ (image : ImageParts) (input : List ℕ) (setting : Setting) (engine : Engine) (credits : Delays) (now : ℕ) (p : IsPaced image input setting engine credits now) where
   -- a run that has ended
-  pub not_over : (v : Seen (Delayed Guest)) → seen_of image input setting engine ≡ v → is_some engine.ending ≡ true → v.state.ending ≡ None → ⊥
-  not_over v view some none = some_none engine.ending some (sym (ending_now image input setting engine credits now p) ∙ ap (λ (v : Seen (Delayed Guest)). v.state.ending) view ∙ none)
+  pub not_over : (v : Seen (Delayed Timed)) → seen_of image input setting engine ≡ v → is_some engine.ending ≡ true → v.state.ending ≡ None → ⊥
+  not_over v view some none = some_none engine.ending some (sym (ending_now image input setting engine credits now p) ∙ ap (λ (v : Seen (Delayed Timed)). v.state.ending) view ∙ none)
 
   -- one that goes on
-  pub not_ended : (v : Seen (Delayed Guest)) → seen_of image input setting engine ≡ v → engine.ending ≡ None → IsSome v.state.ending → ⊥
-  not_ended v view none some = let no : false ≡ true = sym (ap is_some (sym (ap (λ (v : Seen (Delayed Guest)). v.state.ending) view) ∙ ending_now image input setting engine credits now p ∙ none)) ∙ some in cc
+  pub not_ended : (v : Seen (Delayed Timed)) → seen_of image input setting engine ≡ v → engine.ending ≡ None → IsSome v.state.ending → ⊥
+  not_ended v view none some = let no : false ≡ true = sym (ap is_some (sym (ap (λ (v : Seen (Delayed Timed)). v.state.ending) view) ∙ ending_now image input setting engine credits now p ∙ none)) ∙ some in cc
 
   -- beside the shortened machine
-  pub agrees_seen : (v : Seen (Delayed Guest)) → seen_of image input setting engine ≡ v → Agrees v.state (shortened (experiment_of v) (events v.state))
+  pub agrees_seen : (v : Seen (Delayed Timed)) → seen_of image input setting engine ≡ v → Agrees v.state (shortened (experiment_of v) (events v.state))
   agrees_seen v view =
-      subst (λ (v : Seen (Delayed Guest)). Agrees v.state (shortened (experiment_of v) (events v.state))) view
+      subst (λ (v : Seen (Delayed Timed)). Agrees v.state (shortened (experiment_of v) (events v.state))) view
       (subst (λ (n : ℕ). Agrees (standing (experiment_in image input setting) (events_of engine)) (shortened (experiment_in image input setting) n)) (sym (events_now image input setting engine credits now p)) (agree image input setting engine credits now p))
 
-  pub goes_seen : (v : Seen (Delayed Guest)) → seen_of image input setting engine ≡ v → v.state.ending ≡ None → engine.ending ≡ None
-  goes_seen v view none = sym (ending_now image input setting engine credits now p) ∙ ap (λ (v : Seen (Delayed Guest)). v.state.ending) view ∙ none
+  pub goes_seen : (v : Seen (Delayed Timed)) → seen_of image input setting engine ≡ v → v.state.ending ≡ None → engine.ending ≡ None
+  goes_seen v view none = sym (ending_now image input setting engine credits now p) ∙ ap (λ (v : Seen (Delayed Timed)). v.state.ending) view ∙ none
 
   -- one event more
-  pub count_seen : (v : Seen (Delayed Guest)) (n : ℕ) → seen_of image input setting engine ≡ v → n ≡ events_of engine + 1 → n ≡ events v.state + 1
+  pub count_seen : (v : Seen (Delayed Timed)) (n : ℕ) → seen_of image input setting engine ≡ v → n ≡ events_of engine + 1 → n ≡ events v.state + 1
   count_seen v n view is =
-      is ∙ ap (λ (m : ℕ). m + 1) (sym (events_now image input setting engine credits now p) ∙ ap (λ (v : Seen (Delayed Guest)). events v.state) view)
+      is ∙ ap (λ (m : ℕ). m + 1) (sym (events_now image input setting engine credits now p) ∙ ap (λ (v : Seen (Delayed Timed)). events v.state) view)
 
-  pub next_seen : (v : Seen (Delayed Guest)) (n : ℕ) → seen_of image input setting engine ≡ v → n ≡ events_of engine + 1 → standing (experiment_in image input setting) n ≡ standing (experiment_of v) (events v.state + 1)
+  pub next_seen : (v : Seen (Delayed Timed)) (n : ℕ) → seen_of image input setting engine ≡ v → n ≡ events_of engine + 1 → standing (experiment_in image input setting) n ≡ standing (experiment_of v) (events v.state + 1)
   next_seen v n view is =
-      subst (λ (v : Seen (Delayed Guest)). standing (experiment_in image input setting) n ≡ standing (experiment_of v) (events v.state + 1)) view
+      subst (λ (v : Seen (Delayed Timed)). standing (experiment_in image input setting) n ≡ standing (experiment_of v) (events v.state + 1)) view
       (ap (standing (experiment_in image input setting)) (is ∙ ap (λ (m : ℕ). m + 1) (sym (events_now image input setting engine credits now p))))
 
-  pub happens_seen : (v : Seen (Delayed Guest)) (event : Event) (d : Delayed Guest) → seen_of image input setting engine ≡ v → Happens (experiment_in image input setting) event (standing (experiment_in image input setting) (events_of engine)) d
+  pub happens_seen : (v : Seen (Delayed Timed)) (event : Event) (d : Delayed Timed) → seen_of image input setting engine ≡ v → Happens (experiment_in image input setting) event (standing (experiment_in image input setting) (events_of engine)) d
       → Happens (experiment_of v) event v.state d
-  happens_seen v event d view happens = subst (λ (v : Seen (Delayed Guest)). Happens (experiment_of v) event v.state d) view happens
+  happens_seen v event d view happens = subst (λ (v : Seen (Delayed Timed)). Happens (experiment_of v) event v.state d) view happens
 
 only_first : (k : ℕ) → is_among k (0 ∷ []) ≡ true → k ≡ 0
 only_first k e = eqb-true k 0 (one_bit (k == 0) e)
 
 -- what contracts see of a run between two steps
 module _ (image : ImageParts) (input : List ℕ) (setting : Setting) (engine : Engine) (credits : Delays) (now : ℕ) (p : IsPaced image input setting engine credits now) where
-  abbrev paced_x : Experiment Guest
+  abbrev paced_x : Experiment Timed
   paced_x = experiment_in image input setting
 
-  pub stands_seen : (v : Seen (Delayed Guest)) → seen_of image input setting engine ≡ v → v.state ≡ standing (experiment_of v) (events v.state)
+  pub stands_seen : (v : Seen (Delayed Timed)) → seen_of image input setting engine ≡ v → v.state ≡ standing (experiment_of v) (events v.state)
   stands_seen v view =
-      subst (λ (v : Seen (Delayed Guest)). v.state ≡ standing (experiment_of v) (events v.state)) view
+      subst (λ (v : Seen (Delayed Timed)). v.state ≡ standing (experiment_of v) (events v.state)) view
       (ap (standing paced_x) (sym (events_now image input setting engine credits now p)))
 
   -- a hart is due as in the shortened machine
-  pub due_seen : (v : Seen (Delayed Guest)) (h : ℕ) → seen_of image input setting engine ≡ v → key_of engine.schedule h ≡ key_of (shortened (experiment_of v) (events v.state)).dues h
+  pub due_seen : (v : Seen (Delayed Timed)) (h : ℕ) → seen_of image input setting engine ≡ v → key_of engine.schedule h ≡ key_of (shortened (experiment_of v) (events v.state)).dues h
   due_seen v h view =
-      subst (λ (v : Seen (Delayed Guest)). key_of engine.schedule h ≡ key_of (shortened (experiment_of v) (events v.state)).dues h) view
+      subst (λ (v : Seen (Delayed Timed)). key_of engine.schedule h ≡ key_of (shortened (experiment_of v) (events v.state)).dues h) view
       (p.reached.reached.dues h ∙ ap (λ (n : ℕ). key_of (shortened paced_x n).dues h) (sym (events_now image input setting engine credits now p)))
 
   -- of a run that goes on, a hart has a key exactly if it runs or sleeps
-  pub timed_seen : (v : Seen (Delayed Guest)) (h : ℕ) → seen_of image input setting engine ≡ v → v.state.ending ≡ None → is_some (key_of engine.schedule h) ≡ is_timed (experiment_of v).guest v.state.guest h
+  pub timed_seen : (v : Seen (Delayed Timed)) (h : ℕ) → seen_of image input setting engine ≡ v → v.state.ending ≡ None → is_some (key_of engine.schedule h) ≡ is_timed (experiment_of v).guest v.state.guest h
   timed_seen v h view =
-      subst (λ (v : Seen (Delayed Guest)). v.state.ending ≡ None → is_some (key_of engine.schedule h) ≡ is_timed (experiment_of v).guest v.state.guest h) view
+      subst (λ (v : Seen (Delayed Timed)). v.state.ending ≡ None → is_some (key_of engine.schedule h) ≡ is_timed (experiment_of v).guest v.state.guest h) view
       (λ none.
       let beside : Agrees (standing paced_x (events_of engine)) (shortened paced_x (events_of engine)) = agree image input setting engine credits now p in
       let goes : (shortened paced_x (events_of engine)).ending ≡ None = sym beside.ending ∙ none in
       ap is_some (p.reached.reached.dues h)
       ∙ sym (dues_timed paced_x IsOrderly (lawful_with image input setting p.valid) (events_of engine) goes h)
-      ∙ ap (λ (g : Guest). is_timed paced_x.guest g h) (sym beside.guest))
+      ∙ ap (λ (g : Timed). is_timed paced_x.guest g h) (sym beside.guest))
 
-  pub none_seen : (v : Seen (Delayed Guest)) → seen_of image input setting engine ≡ v → engine.ending ≡ None → v.state.ending ≡ None
-  none_seen v view none = sym (ap (λ (v : Seen (Delayed Guest)). v.state.ending) view) ∙ ending_now image input setting engine credits now p ∙ none
+  pub none_seen : (v : Seen (Delayed Timed)) → seen_of image input setting engine ≡ v → engine.ending ≡ None → v.state.ending ≡ None
+  none_seen v view none = sym (ap (λ (v : Seen (Delayed Timed)). v.state.ending) view) ∙ ending_now image input setting engine credits now p ∙ none
 
   -- an ended run isn't before its delay
   pub delay_in_time : (e : Ending) → engine.ending ≡ Some e → credits.raised ≤ now
   delay_in_time e over =
-      let d : Delayed Guest = standing paced_x (events_of engine) in
+      let d : Delayed Timed = standing paced_x (events_of engine) in
       let raised : credits.raised ≡ d.delay = p.holds.raised in
       let moment : now ≡ d.now = p.moment in
       let in_time : d.delay ≤ d.now = end_in_time paced_x IsOrderly (lawful_with image input setting p.valid) (events_of engine) e (ending_now image input setting engine credits now p ∙ over) in
       omega arith
 
 -- as a run begins
-module _ (image : ImageParts) (input : List ℕ) (setting : Setting) (engine : Engine) (valid : IsChoice setting.choice) (f : IsFirst setting image input engine) where
-  abbrev begun_x : Experiment Guest
+module _ (image : ImageParts) (input : List ℕ) (setting : Setting) (engine : Engine) (valid : IsSetting setting) (f : IsFirst setting image input engine) where
+  abbrev begun_x : Experiment Timed
   begun_x = experiment_in image input setting
 
   short_first : (shortened begun_x 0).guest ≡ begun_x.first
@@ -748,14 +776,14 @@ module _ (image : ImageParts) (input : List ℕ) (setting : Setting) (engine : E
   zeroth = omega (arith, f.retired, f.wakes)
 
   guest_first : engine.guest ≡ begun_x.first
-  guest_first = sym (ap (λ (t : Shortened Guest). t.guest) f.reached.reached.state) ∙ ap (λ (n : ℕ). (shortened begun_x n).guest) zeroth ∙ short_first
+  guest_first = sym (ap (λ (t : Shortened Timed). t.guest) f.reached.reached.state) ∙ ap (λ (n : ℕ). (shortened begun_x n).guest) zeroth ∙ short_first
 
   pub first_made_here : (hs : List ℕ) → hs ≡ engine.selected → (k : ℕ) → is_among k hs ≡ true → IsMade engine.guest k
   first_made_here hs is k among =
       let chosen : is_among k (filter (begun_x.guest.is_selected engine.guest) (0 ∷ [])) ≡ true = ap (is_among k) (sym (is ∙ f.selected)) ∙ among in
       let first : k ≡ 0 = only_first k (among_filter (begun_x.guest.is_selected engine.guest) k (0 ∷ []) chosen).1 in
-      let one : length engine.guest.harts ≡ 1 = ap (λ (g : Guest). length g.harts) guest_first ∙ first_count image input setting.choice.output_limit setting.choice.layout in
-      omega arith
+      let made : IsMade begun_x.first 0 = first_made image input setting.choice.output_limit setting.choice.layout setting.timing setting.index.now in
+      subst (λ (g : Timed). IsMade g k) (sym guest_first) (subst (IsMade begun_x.first) (sym first) made)
 
   -- those that raise the delay at first run: hart 0 was started, and no other can be selected
   pub first_runs_here : (made started : Delays) (hs : List ℕ) → made ≡ none_raised 256 → started ≡ with_start 0 0 made → hs ≡ engine.selected → AllRun started hs
@@ -764,6 +792,14 @@ module _ (image : ImageParts) (input : List ℕ) (setting : Setting) (engine : E
       let chosen : is_among k (filter (begun_x.guest.is_selected engine.guest) (0 ∷ [])) ≡ true = ap (is_among k) (sym (is ∙ f.selected)) ∙ among in
       let below : AllBelow (none_raised 256) (0 ∷ []) = λ j low. let first : j ≡ 0 = only_first j low in let size = length-replicate {A = Hart} 256 idle_hart in omega (arith, first, size) in
       subst (λ (c : Delays). Runs c k) (sym starts) (starts_run (0 ∷ []) (none_raised 256) below k (among_filter (begun_x.guest.is_selected engine.guest) k (0 ∷ []) chosen).1)
+
+  -- nothing was raised, and hart 0 alone raises the delay at first
+  pub first_few_here : (started : Delays) (hs : List ℕ) → started.raised ≡ 0 → hs ≡ engine.selected → started.raised + most_ticks engine.guest.beside.timing * length hs ≤ 10 ^ 17
+  first_few_here started hs none is =
+      let one : length (filter (begun_x.guest.is_selected engine.guest) (0 ∷ [])) ≤ 1 = one_at_most (begun_x.guest.is_selected engine.guest) 0 in
+      let same : length hs ≡ length (filter (begun_x.guest.is_selected engine.guest) (0 ∷ [])) = ap length (is ∙ f.selected) in
+      let few : most_ticks setting.timing * length hs ≤ 41 * 10 ^ 15 = ticks_within setting.timing setting.choice.budget (length hs) valid.machine valid.choice.few (omega (arith, one, same)) in
+      subst (λ (t : Timing). started.raised + most_ticks t * length hs ≤ 10 ^ 17) (sym (on_machine image input setting valid engine f.reached).timing) (omega (arith, none, few))
 
   first_raised : Delays
   first_raised = with_raises (raise_ticks engine.guest setting.choice.speedup) (filter (begun_x.guest.is_selected engine.guest) (0 ∷ [])) (with_starts (0 ∷ []) (none_raised 256))
@@ -798,9 +834,9 @@ module _ (image : ImageParts) (input : List ℕ) (setting : Setting) (engine : E
   first_holds =
       let same : (unbegun begun_x).guest ≡ engine.guest = unbegun_guest ∙ sym guest_first in
       subst (Holds first_raised) (sym standing_first)
-      (subst (λ (g : Guest). Holds (with_raises (raise_ticks engine.guest setting.choice.speedup) (filter (begun_x.guest.is_selected g) (0 ∷ [])) (with_starts (0 ∷ []) (none_raised 256))) (begin begun_x (0 ∷ []) (unbegun begun_x))) same
+      (subst (λ (g : Timed). Holds (with_raises (raise_ticks engine.guest setting.choice.speedup) (filter (begun_x.guest.is_selected g) (0 ∷ [])) (with_starts (0 ∷ []) (none_raised 256))) (begin begun_x (0 ∷ []) (unbegun begun_x))) same
       (holds_begin begun_x (0 ∷ []) (raise_ticks engine.guest setting.choice.speedup) (none_raised 256) (unbegun begun_x)
-      (λ h. mul_comm (cycles_of (next_of engine.guest h)) setting.choice.speedup ∙ ap (λ (g : Guest). setting.choice.speedup * cycles_of (next_of g h)) (sym same)) holds_none))
+      (λ h. mul_comm (cycles_of_next engine.guest h) setting.choice.speedup ∙ ap (λ (g : Timed). setting.choice.speedup * cycles_of_next g h) (sym same)) holds_none))
 
   first_begins : (before begun_x 0).harts ≡ 0 ∷ []
   unfolding before
@@ -828,88 +864,88 @@ module _ (image : ImageParts) (input : List ℕ) (setting : Setting) (engine : E
       }
 
 -- a run between two events: only its state changes, and it stands after as many events as it counts
-pub record IsAt (old new : Seen (Delayed Guest)) : Type 0 where
+pub record IsAt (old new : Seen (Delayed Timed)) : Type 0 where
   pub valid : IsChoice old.choice
   pub rest : new ≡ record old { state = new.state }
   pub stands : new.state ≡ standing (experiment_of old) (events new.state)
 
 -- and within its budget
-pub record IsGoing (old new : Seen (Delayed Guest)) : Type 0 where
+pub record IsGoing (old new : Seen (Delayed Timed)) : Type 0 where
   pub at : IsAt old new
   pub within : new.state.retired ≤ old.choice.budget
 
-pub going_first : (image : ImageParts) (input : List ℕ) (setting : Setting) (engine : Engine) (credits : Delays) (now : ℕ) → IsPaced image input setting engine credits now → (v : Seen (Delayed Guest)) → seen_of image input setting engine ≡ v → IsGoing v v
+pub going_first : (image : ImageParts) (input : List ℕ) (setting : Setting) (engine : Engine) (credits : Delays) (now : ℕ) → IsPaced image input setting engine credits now → (v : Seen (Delayed Timed)) → seen_of image input setting engine ≡ v → IsGoing v v
 going_first image input setting engine credits now p v view =
-    subst (λ (v : Seen (Delayed Guest)). IsGoing v v) view
+    subst (λ (v : Seen (Delayed Timed)). IsGoing v v) view
     (record {
-      at = record { valid = p.valid; rest = refl; stands = ap (standing (experiment_in image input setting)) (sym (events_now image input setting engine credits now p)) };
+      at = record { valid = p.valid.choice; rest = refl; stands = ap (standing (experiment_in image input setting)) (sym (events_now image input setting engine credits now p)) };
       within = rw (retired_now image input setting engine credits now p) p.reached.retired;
     })
 
-lawful_of : (v : Seen (Delayed Guest)) → IsChoice v.choice → IsLawful (experiment_of v) IsOrderly
-lawful_of v valid = lawful_run v.image (position_at v.index) (point_of v.points) v.input v.choice valid.speedup
+lawful_of : (v : Seen (Delayed Timed)) → IsChoice v.choice → IsLawful (experiment_of v) IsOrderly
+lawful_of v valid = lawful_on v.timing v.image v.index (point_of v.points) v.input v.choice valid.speedup
 
-module _ (old now : Seen (Delayed Guest)) (g : IsAt old now) where
+module _ (old now : Seen (Delayed Timed)) (g : IsAt old now) where
   -- a run that goes on has come to fewer events than it can
   events_left : now.state.ending ≡ None → events now.state < 2 * old.choice.budget
   events_left none =
-      let x : Experiment Guest = experiment_of old in
+      let x : Experiment Timed = experiment_of old in
       let n : ℕ = events now.state in
       let agree : Agrees (standing x n) (shortened x n) = agrees x IsOrderly (lawful_of old g.valid) n in
-      let goes : (shortened x n).ending ≡ None = sym agree.ending ∙ ap (λ (d : Delayed Guest). d.ending) (sym g.stands) ∙ none in
+      let goes : (shortened x n).ending ≡ None = sym agree.ending ∙ ap (λ (d : Delayed Timed). d.ending) (sym g.stands) ∙ none in
       few x IsOrderly (lawful_of old g.valid) n g.valid.some_budget (goes_on_at x IsOrderly (lawful_of old g.valid) n goes)
 
   -- an event later
-  pub at_next : (new : Seen (Delayed Guest)) → new.state ≡ standing (experiment_of now) (events now.state + 1) → events new.state ≡ events now.state + 1 → new ≡ record now { state = new.state } → IsAt old new
+  pub at_next : (new : Seen (Delayed Timed)) → new.state ≡ standing (experiment_of now) (events now.state + 1) → events new.state ≡ events now.state + 1 → new ≡ record now { state = new.state } → IsAt old new
   at_next new next count rest = record {
     valid = g.valid;
-    rest = rest ∙ ap (λ (v : Seen (Delayed Guest)). record v { state = new.state }) g.rest;
-    stands = next ∙ ap₂ (λ (y : Experiment Guest) (n : ℕ). standing y n) (ap experiment_of g.rest) (sym count);
+    rest = rest ∙ ap (λ (v : Seen (Delayed Timed)). record v { state = new.state }) g.rest;
+    stands = next ∙ ap₂ (λ (y : Experiment Timed) (n : ℕ). standing y n) (ap experiment_of g.rest) (sym count);
   }
 
   -- one event or more later
-  pub at_far : (new : Seen (Delayed Guest)) → new.state ≡ standing (experiment_of now) (events new.state) → new ≡ record now { state = new.state } → IsAt old new
+  pub at_far : (new : Seen (Delayed Timed)) → new.state ≡ standing (experiment_of now) (events new.state) → new ≡ record now { state = new.state } → IsAt old new
   at_far new next rest = record {
     valid = g.valid;
-    rest = rest ∙ ap (λ (v : Seen (Delayed Guest)). record v { state = new.state }) g.rest;
-    stands = next ∙ ap (λ (y : Experiment Guest). standing y (events new.state)) (ap experiment_of g.rest);
+    rest = rest ∙ ap (λ (v : Seen (Delayed Timed)). record v { state = new.state }) g.rest;
+    stands = next ∙ ap (λ (y : Experiment Timed). standing y (events new.state)) (ap experiment_of g.rest);
   }
 
-  pub far_smaller : (new : Seen (Delayed Guest)) → now.state.ending ≡ None → events now.state < events new.state → 2 * old.choice.budget - events new.state < 2 * old.choice.budget - events now.state
+  pub far_smaller : (new : Seen (Delayed Timed)) → now.state.ending ≡ None → events now.state < events new.state → 2 * old.choice.budget - events new.state < 2 * old.choice.budget - events now.state
   far_smaller new none more = let left : events now.state < 2 * old.choice.budget = events_left none in omega (arith, more)
 
-  pub at_smaller : (new : Seen (Delayed Guest)) → now.state.ending ≡ None → events new.state ≡ events now.state + 1 → 2 * old.choice.budget - events new.state < 2 * old.choice.budget - events now.state
+  pub at_smaller : (new : Seen (Delayed Timed)) → now.state.ending ≡ None → events new.state ≡ events now.state + 1 → 2 * old.choice.budget - events new.state < 2 * old.choice.budget - events now.state
   at_smaller new none count = let left : events now.state < 2 * old.choice.budget = events_left none in omega (arith, count)
 
-module _ (old now : Seen (Delayed Guest)) (g : IsGoing old now) where
+module _ (old now : Seen (Delayed Timed)) (g : IsGoing old now) where
   -- one event or more later
-  pub going_far : (new : Seen (Delayed Guest)) → new.state ≡ standing (experiment_of now) (events new.state) → new.state.retired ≤ now.choice.budget → new ≡ record now { state = new.state } → IsGoing old new
+  pub going_far : (new : Seen (Delayed Timed)) → new.state ≡ standing (experiment_of now) (events new.state) → new.state.retired ≤ now.choice.budget → new ≡ record now { state = new.state } → IsGoing old new
   going_far new next within rest = record {
     at = at_far old now g.at new next rest;
-    within = subst (λ (v : Seen (Delayed Guest)). new.state.retired ≤ v.choice.budget) g.at.rest within;
+    within = subst (λ (v : Seen (Delayed Timed)). new.state.retired ≤ v.choice.budget) g.at.rest within;
   }
 
-  abbrev run_x : Experiment Guest
+  abbrev run_x : Experiment Timed
   run_x = experiment_of old
 
   module _ (e : Ending) (over : now.state.ending ≡ Some e) where
     within_enough : events now.state ≤ 2 * old.choice.budget
     within_enough =
         let within : now.state.retired ≤ old.choice.budget = g.within in
-        let each = subst (λ (d : Delayed Guest). d.wakes + run_x.guest.sleepers d.guest ≤ d.retired) (sym g.at.stands) (few_wakes run_x IsOrderly (lawful_of old g.at.valid) (events now.state)) in
+        let each = subst (λ (d : Delayed Timed). d.wakes + run_x.guest.sleepers d.guest ≤ d.retired) (sym g.at.stands) (few_wakes run_x IsOrderly (lawful_of old g.at.valid) (events now.state)) in
         omega (arith, within, each)
 
     stands_over : (standing run_x (events now.state)).ending ≡ Some e
-    stands_over = ap (λ (d : Delayed Guest). d.ending) (sym g.at.stands) ∙ over
+    stands_over = ap (λ (d : Delayed Timed). d.ending) (sym g.at.stands) ∙ over
 
     pub record_now : record_of run_x now.state e ≡ delayed_record run_x
-    record_now = ap (λ (d : Delayed Guest). record_of run_x d e) g.at.stands ∙ recorded_delayed run_x IsOrderly (lawful_of old g.at.valid) (events now.state) e within_enough stands_over
+    record_now = ap (λ (d : Delayed Timed). record_of run_x d e) g.at.stands ∙ recorded_delayed run_x IsOrderly (lawful_of old g.at.valid) (events now.state) e within_enough stands_over
 
     pub last_now : now.state ≡ standing run_x (enough run_x)
     last_now = g.at.stands ∙ last run_x IsOrderly (lawful_of old g.at.valid) (events now.state) e within_enough stands_over
 
     pub agrees_last : Agrees now.state (shortened run_x (enough run_x))
-    agrees_last = subst (λ (d : Delayed Guest). Agrees d (shortened run_x (enough run_x))) (sym last_now) (agrees run_x IsOrderly (lawful_of old g.at.valid) (enough run_x))
+    agrees_last = subst (λ (d : Delayed Timed). Agrees d (shortened run_x (enough run_x))) (sym last_now) (agrees run_x IsOrderly (lawful_of old g.at.valid) (enough run_x))
 
   pub delayed_now : IsDelayed run_x (delayed_record run_x)
   delayed_now = delayed_is run_x IsOrderly (lawful_of old g.at.valid) g.at.valid.some_budget

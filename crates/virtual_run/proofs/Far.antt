@@ -1,6 +1,6 @@
 -- Several events of the delayed machine at once. Quiet retirements change no account: the credits
 -- before them, at the moment of the last of them, hold the state after it.
-use Rattle.std.proofs.Common.{◌≡◌, ℕ, zero, suc, ◌+◌, ◌-◌, ◌*◌, ◌^◌, ◌≤◌, ◌<◌, Bool, true, false, not, List, [], ◌∷◌, map, length, get_or, refl, sym, ap, ap₂, ◌∙◌, subst, arith, Option, Some, None, is_some, zero-add, suc-add}
+use Rattle.std.proofs.Common.{◌≡◌, ℕ, zero, suc, ◌+◌, ◌-◌, ◌*◌, ◌^◌, ◌≤◌, ◌<◌, List, [], ◌∷◌, map, length, get_or, refl, sym, ap, ap₂, ◌∙◌, subst, arith, Option, Some, None, is_some, zero-add, suc-add}
 use Rattle.std.proofs.lemmas.List.{length-map}
 use Rattle.std.proofs.Math.ListN.{get_or-map}
 use Rattle.coz_types.specs.Image.{ImageParts}
@@ -14,14 +14,14 @@ use Rattle.delay_credits.specs.Delays.{Delays, hart_at, pause_of, at, with_start
 use Rattle.delay_credits.specs.Ticks.{hart_after_ticks}
 use Rattle.delay_credits.proofs.TicksLemmas.{ticked_is}
 use Rattle.machines.specs.Steps.{sit_hart}
-use Rattle.guest_calls.specs.Guest.{Guest}
+use Rattle.timed_guest.specs.Guest.{Timed}
 use Rattle.run_engine.specs.declared.choice.Setting.{Setting}
 use Rattle.run_engine.specs.declared.engine.Event.{Event}
 use Rattle.run_engine.specs.declared.engine.Event.TheVariants.{Woke, Retired}
 use Rattle.run_engine.specs.declared.engine.Engine.{Engine}
-use Rattle.run_engine.specs.Engine.{events_of, IsSteady}
+use Rattle.run_engine.specs.Engine.{events_of}
 use Rattle.run_engine.specs.Run.{experiment_in}
-use Rattle.run_engine.specs.Far.{IsQuiet, AreQuiet, IsFarAdvance}
+use Rattle.run_engine.specs.Far.{IsQuiet, IsFarAdvance}
 use Rattle.run_engine.specs.Seen.{Seen, experiment_of}
 use Rattle.run_engine.proofs.Far.{after_all}
 use Rattle.virtual_run.specs.Credited.{raise_ticks, with_starts, with_rest, credits_after, credited_by, moment_of, AllRun, CanBegin, CanWake, CanAccountRetirement, CanAccount}
@@ -157,7 +157,7 @@ one_more image input setting engine credits n last new before q =
 
 module _ (image : ImageParts) (input : List ℕ) (setting : Setting) (engine : Engine) (credits : Delays) (now : ℕ) (p : IsPaced image input setting engine credits now) (new : Engine) (event : Event) (delay : ℕ) (given : delay ≡ credits.raised) (goes : engine.ending ≡ None)
     (did : IsFarAdvance setting engine event delay new) where
-  abbrev x : Experiment Guest
+  abbrev x : Experiment Timed
   x = experiment_in image input setting
 
   none_yet : IsPacedAfter image input setting engine credits 0 engine
@@ -178,7 +178,7 @@ module _ (image : ImageParts) (input : List ℕ) (setting : Setting) (engine : E
   abbrev c : Delays
   c = at before.moment credits
 
-  pub far_few : moment_of event new ≤ 2 * 10 ^ 16
+  pub far_few : moment_of event new ≤ 51 * 10 ^ 15
   far_few = event_few image input setting did.0 c before.moment before.paced new event delay given before.goes did.3
 
   can_last : CanAccount event c new (moment_of event new + delay)
@@ -207,7 +207,7 @@ module _ (image : ImageParts) (input : List ℕ) (setting : Setting) (engine : E
       ∙ sym (starts_now image input setting engine credits now p)
 
   -- and what contracts see of it
-  module _ (after : Delays) (is : after ≡ credited_by event new (raise_ticks new.guest setting.choice.speedup) (moment_of event new + delay) credits) (v : Seen (Delayed Guest)) (view : seen_of image input setting engine ≡ v) where
+  module _ (after : Delays) (is : after ≡ credited_by event new (raise_ticks new.guest setting.choice.speedup) (moment_of event new + delay) credits) (v : Seen (Delayed Timed)) (view : seen_of image input setting engine ≡ v) where
     now_new : events (standing x (events_of new)) ≡ events_of new
     now_new = events_now image input setting new after (moment_of event new + delay) (far_paced after is)
 
@@ -215,24 +215,24 @@ module _ (image : ImageParts) (input : List ℕ) (setting : Setting) (engine : E
     same_run = ap experiment_of view
 
     pub far_next : standing x (events_of new) ≡ standing (experiment_of v) (events (standing x (events_of new)))
-    far_next = ap (standing x) (sym now_new) ∙ ap (λ (y : Experiment Guest). standing y (events (standing x (events_of new)))) same_run
+    far_next = ap (standing x) (sym now_new) ∙ ap (λ (y : Experiment Timed). standing y (events (standing x (events_of new)))) same_run
 
     pub far_more : events v.state < events (standing x (events_of new))
     far_more =
-        let old : events (standing x (events_of engine)) ≡ events v.state = ap (λ (o : Seen (Delayed Guest)). events o.state) view in
+        let old : events (standing x (events_of engine)) ≡ events v.state = ap (λ (o : Seen (Delayed Timed)). events o.state) view in
         let here : events (standing x (events_of engine)) ≡ events_of engine = events_now image input setting engine credits now p in
         omega (arith, old, here, now_new, far_count)
 
     pub far_none : (standing (experiment_of v) (events (standing x (events_of new)) - 1)).starts ≡ v.state.starts
     far_none =
-        ap₂ (λ (y : Experiment Guest) (n : ℕ). (standing y (n - 1)).starts) (sym same_run) now_new
+        ap₂ (λ (y : Experiment Timed) (n : ℕ). (standing y (n - 1)).starts) (sym same_run) now_new
         ∙ far_starts
-        ∙ ap (λ (o : Seen (Delayed Guest)). o.state.starts) view
+        ∙ ap (λ (o : Seen (Delayed Timed)). o.state.starts) view
 
     pub far_within : (standing x (events_of new)).retired ≤ v.choice.budget
     far_within =
         let paced = far_paced after is in
         let count : (standing x (events_of new)).retired ≡ new.retired = retired_now image input setting new after (moment_of event new + delay) paced in
         let few : new.retired ≤ setting.choice.budget = paced.reached.retired in
-        let same : setting.choice.budget ≡ v.choice.budget = ap (λ (o : Seen (Delayed Guest)). o.choice.budget) view in
+        let same : setting.choice.budget ≡ v.choice.budget = ap (λ (o : Seen (Delayed Timed)). o.choice.budget) view in
         omega (arith, count, few, same)

@@ -2,7 +2,9 @@
 use Rattle.std.proofs.Common.{◌≡◌, ℕ, ◌+◌, ◌-◌, ◌*◌, ◌^◌, ◌≤◌, ◌<◌, Bool, true, false, if◌then◌else◌, ◌==◌, List, [], ◌∷◌, length, get_or, filter, fold, refl, sym, ap, ap₂, ◌∙◌, subst, arith, Option, Some, None, is_some, eq-eqb, mul_comm}
 use Rattle.coz_types.specs.declared.ending.Ending.{Ending}
 use Rattle.coz_types.specs.Image.{ImageParts}
-use Rattle.cost_table.specs.Costs.{cycles_of}
+use Rattle.timing_model.specs.declared.timing.Timing.{Timing}
+use Rattle.run_engine.specs.Engine.{most_ticks}
+use Rattle.virtual_run.proofs.Cuts.{ticks_within}
 use Rattle.hart_schedule.specs.Keys.{Keys, key_of}
 use Rattle.machines.specs.Places.{is_among, AllApart}
 use Rattle.machines.specs.Guest.{Experiment, IsLawful, cut}
@@ -16,15 +18,15 @@ use Rattle.machines.proofs.Lead.{standing_begins, begin_starts, forked, same_bef
 use Rattle.machines.proofs.LeadDues.{dues_forked}
 use Rattle.machines.proofs.LeadForks.{before_guest, ended_begins, filter_apart, begins_apart, begun_due, rest_forked, parts_forked}
 use Rattle.delay_credits.specs.Delays.{Delays}
-use Rattle.guest_calls.specs.Guest.{Guest}
-use Rattle.guest_calls.specs.Orderly.{IsOrderly}
-use Rattle.guest_calls.specs.Retire.{next_of}
-use Rattle.guest_calls.proofs.Law.{timed_low}
+use Rattle.timed_guest.specs.Guest.{Timed}
+use Rattle.timed_guest.specs.Orderly.{IsOrderly}
+use Rattle.timed_guest.specs.Retire.{cycles_of_next}
+use Rattle.timed_guest.proofs.Law.{timed_low}
 use Rattle.run_engine.specs.declared.choice.Choice.{Choice}
 use Rattle.run_engine.specs.declared.choice.Setting.{Setting}
 use Rattle.run_engine.specs.declared.engine.Engine.{Engine}
 use Rattle.run_engine.specs.Begin.{many}
-use Rattle.run_engine.specs.Run.{IsChoice, experiment_in}
+use Rattle.run_engine.specs.Run.{IsSetting, experiment_in}
 use Rattle.run_engine.specs.Engine.{events_of, IsEngineOf, IsSteady}
 use Rattle.virtual_run.specs.Credited.{raise_ticks, with_one_raise, with_raises, Holds, AllRun, AllMade}
 use Rattle.virtual_run.specs.DelayedRun.{IsPaced}
@@ -34,7 +36,7 @@ use Rattle.run_engine.proofs.Keys.{has_place}
 use Rattle.virtual_run.proofs.Credited.{among_filter, among_more, held_raise}
 use Rattle.virtual_run.proofs.CreditedLists.{raises_length}
 use Rattle.virtual_run.proofs.CreditedSteps.{runs_held}
-use Rattle.virtual_run.proofs.CreditedRun.{lawful_with, agree, ending_now, starts_now, guest_now, starts_few, raised_few, is_steady}
+use Rattle.virtual_run.proofs.CreditedRun.{machine_now, lawful_with, agree, ending_now, starts_now, guest_now, starts_few, raised_few, is_steady}
 use Rattle.virtual_run.proofs.Sooner.{less, sooner_length, sooner_many, sooner_key, among_filtered, ticks_by}
 
 -- raises that were counted, of the credits
@@ -63,10 +65,10 @@ abbrev pub sped_setting : ℕ → Setting → Setting
 sped_setting q setting = record setting { choice = record setting.choice { speedup = q } }
 
 module _ (image : ImageParts) (input : List ℕ) (setting : Setting) (engine : Engine) (credits : Delays) (now : ℕ) (p : IsPaced image input setting engine credits now) where
-  abbrev x : Experiment Guest
+  abbrev x : Experiment Timed
   x = experiment_in image input setting
 
-  abbrev d : Delayed Guest
+  abbrev d : Delayed Timed
   d = standing x (events_of engine)
 
   abbrev law : IsLawful x IsOrderly
@@ -116,20 +118,21 @@ module _ (image : ImageParts) (input : List ℕ) (setting : Setting) (engine : E
   -- each selected hart is a start
   pub starts_are : (before x (events_of engine)).state.starts ≡ 0 → engine.starts ≡ length engine.selected
   starts_are z =
-      let b : Before Guest = before x (events_of engine) in
+      let b : Before Timed = before x (events_of engine) in
       let guest : b.state.guest ≡ engine.guest = sym (before_guest x (events_of engine)) ∙ guest_now image input setting engine credits now p in
-      let count : d.starts ≡ b.state.starts + length (filter (x.guest.is_selected b.state.guest) b.harts) = ap (λ (d : Delayed Guest). d.starts) (standing_begins x (events_of engine)) ∙ begin_starts x b.harts b.state in
-      let same : length (filter (x.guest.is_selected b.state.guest) b.harts) ≡ length engine.selected = ap (λ (g : Guest). length (filter (x.guest.is_selected g) b.harts)) guest ∙ ap length (sym p.selected) in
+      let count : d.starts ≡ b.state.starts + length (filter (x.guest.is_selected b.state.guest) b.harts) = ap (λ (d : Delayed Timed). d.starts) (standing_begins x (events_of engine)) ∙ begin_starts x b.harts b.state in
+      let same : length (filter (x.guest.is_selected b.state.guest) b.harts) ≡ length engine.selected = ap (λ (g : Timed). length (filter (x.guest.is_selected g) b.harts)) guest ∙ ap length (sym p.selected) in
       let starts : d.starts ≡ engine.starts = starts_now image input setting engine credits now p in
       omega (arith, z, count, same, starts)
 
-  pub selected_few : (hs : List ℕ) → hs ≡ engine.selected → (before x (events_of engine)).state.starts ≡ 0 → credits.raised + 3800 * length hs ≤ 10 ^ 17
+  pub selected_few : (hs : List ℕ) → hs ≡ engine.selected → (before x (events_of engine)).state.starts ≡ 0 → credits.raised + most_ticks engine.guest.beside.timing * length hs ≤ 10 ^ 17
   selected_few hs is z =
-      let many_starts : engine.starts ≤ 2 * 10 ^ 12 + 256 = starts_few image input setting engine credits now p in
-      let few : credits.raised ≤ 10 ^ 16 = raised_few image input setting engine credits now p in
+      let many_starts : engine.starts ≤ 2 * setting.choice.budget + 256 = starts_few image input setting engine credits now p in
+      let raised : credits.raised ≤ 41 * 10 ^ 15 = raised_few image input setting engine credits now p in
       let count : engine.starts ≡ length engine.selected = starts_are z in
       let same : length hs ≡ length engine.selected = ap length is in
-      omega arith
+      let few : most_ticks setting.timing * length hs ≤ 41 * 10 ^ 15 = ticks_within setting.timing setting.choice.budget (length hs) p.valid.machine p.valid.choice.few (omega (arith, many_starts, count, same)) in
+      subst (λ (t : Timing). credits.raised + most_ticks t * length hs ≤ 10 ^ 17) (sym (machine_now image input setting engine credits now p)) (omega (arith, raised, few))
 
   pub same_moment : credits.latest ≡ now
   same_moment = p.holds.latest ∙ sym p.moment
@@ -138,59 +141,59 @@ module _ (image : ImageParts) (input : List ℕ) (setting : Setting) (engine : E
     abbrev n : ℕ
     n = events_of engine
 
-    abbrev slow : Experiment Guest
+    abbrev slow : Experiment Timed
     slow = at_speedup 0 x
 
-    abbrev fast : Experiment Guest
+    abbrev fast : Experiment Timed
     fast = at_speedup q x
 
     is_slow : slow ≡ x
     is_slow = ap (λ (i : ℕ). at_speedup i x) (sym whole)
 
     slow_law : IsLawful slow IsOrderly
-    slow_law = subst (λ (y : Experiment Guest). IsLawful y IsOrderly) (sym is_slow) law
+    slow_law = subst (λ (y : Experiment Timed). IsLawful y IsOrderly) (sym is_slow) law
 
     none : (before slow n).state.starts ≡ 0
-    none = ap (λ (y : Experiment Guest). (before y n).state.starts) is_slow ∙ z
+    none = ap (λ (y : Experiment Timed). (before y n).state.starts) is_slow ∙ z
 
     abbrev new_choice : Choice
     new_choice = record setting.choice { speedup = q }
 
-    valid_new : IsChoice new_choice
-    valid_new = valid_at setting.choice q small p.valid
+    valid_new : IsSetting (sped_setting q setting)
+    valid_new = record { choice = valid_at setting.choice q small p.valid.choice; machine = p.valid.machine }
 
     abbrev ticks : ℕ → ℕ
     ticks = raise_ticks engine.guest q
 
     begins_guest : (before slow n).state.guest ≡ engine.guest
-    begins_guest = ap (λ (y : Experiment Guest). (before y n).state.guest) is_slow ∙ sym (before_guest x n) ∙ guest_now image input setting engine credits now p
+    begins_guest = ap (λ (y : Experiment Timed). (before y n).state.guest) is_slow ∙ sym (before_guest x n) ∙ guest_now image input setting engine credits now p
 
     begins_harts : (before slow n).harts ≡ (before x n).harts
-    begins_harts = ap (λ (y : Experiment Guest). (before y n).harts) is_slow
+    begins_harts = ap (λ (y : Experiment Timed). (before y n).harts) is_slow
 
     -- the selected harts, as the fork's law has them
     chosen : filter (x.guest.is_selected (before slow n).state.guest) (before slow n).harts ≡ engine.selected
-    chosen = ap₂ (λ (g : Guest) (hs : List ℕ). filter (x.guest.is_selected g) hs) begins_guest begins_harts ∙ sym p.selected
+    chosen = ap₂ (λ (g : Timed) (hs : List ℕ). filter (x.guest.is_selected g) hs) begins_guest begins_harts ∙ sym p.selected
 
     cut_is : (k : ℕ) → x.guest.is_selected engine.guest k ≡ true → ticks k ≡ cut fast engine.guest k
     unfolding cut
-    cut_is k is = mul_comm (cycles_of (next_of engine.guest k)) q ∙ sym (ap (λ (b : Bool). if b then q * cycles_of (next_of engine.guest k) else 0) is)
+    cut_is k is = mul_comm (cycles_of_next engine.guest k) q ∙ sym (ap (λ (b : Bool). if b then q * cycles_of_next engine.guest k else 0) is)
 
     slow_state : standing slow n ≡ d
-    slow_state = ap (λ (y : Experiment Guest). standing y n) is_slow
+    slow_state = ap (λ (y : Experiment Timed). standing y n) is_slow
 
     forked_is : standing fast n ≡ fold (raise_counted fast) d engine.selected
-    forked_is = forked x q n none ∙ ap₂ (λ (o : Delayed Guest) (hs : List ℕ). fold (raise_counted fast) o hs) slow_state chosen
+    forked_is = forked x q n none ∙ ap₂ (λ (o : Delayed Timed) (hs : List ℕ). fold (raise_counted fast) o hs) slow_state chosen
 
     holds_new : (hs : List ℕ) → hs ≡ engine.selected → Holds (with_raises ticks hs credits) (standing fast n)
     holds_new hs is =
         subst (λ (hs : List ℕ). Holds (with_raises ticks hs credits) (standing fast n)) (sym is)
         (subst (Holds (with_raises ticks engine.selected credits)) (sym forked_is)
         (holds_counted fast engine.selected ticks credits d
-        (λ h among. cut_is h (began h among).0 ∙ ap (λ (g : Guest). cut fast g h) (sym (guest_now image input setting engine credits now p))) p.holds))
+        (λ h among. cut_is h (began h among).0 ∙ ap (λ (g : Timed). cut fast g h) (sym (guest_now image input setting engine credits now p))) p.holds))
 
     parts : unchanged d (standing fast n) ≡ d
-    parts = subst (λ (o : Delayed Guest). unchanged o (standing fast n) ≡ o) slow_state (parts_forked x IsOrderly q n slow_law none)
+    parts = subst (λ (o : Delayed Timed). unchanged o (standing fast n) ≡ o) slow_state (parts_forked x IsOrderly q n slow_law none)
 
     apart_new : AllApart engine.selected
     apart_new = subst AllApart (sym p.selected) (filter_apart x (x.guest.is_selected engine.guest) (before x n).harts (begins_apart x IsOrderly law n))
@@ -199,7 +202,7 @@ module _ (image : ImageParts) (input : List ℕ) (setting : Setting) (engine : E
     dues_new keys is k =
         ap (λ (keys : Keys). key_of keys k) is
         ∙ sooner_key ticks engine.selected engine.schedule k apart_new
-        ∙ ap (λ (o : Option ℕ). less (if is_among k engine.selected then ticks k else 0) o) (p.reached.reached.dues k ∙ ap (λ (y : Experiment Guest). get_or (shortened y n).dues k None) (sym is_slow))
+        ∙ ap (λ (o : Option ℕ). less (if is_among k engine.selected then ticks k else 0) o) (p.reached.reached.dues k ∙ ap (λ (y : Experiment Timed). get_or (shortened y n).dues k None) (sym is_slow))
         ∙ ap (λ (m : ℕ). less m (get_or (shortened slow n).dues k None)) amount
         ∙ sym (dues_forked x IsOrderly q n slow_law none k)
       where
@@ -208,7 +211,7 @@ module _ (image : ImageParts) (input : List ℕ) (setting : Setting) (engine : E
         amount =
             ap (λ (b : Bool). if b then ticks k else 0) (ap (is_among k) p.selected ∙ among_filtered (x.guest.is_selected engine.guest) k (before x n).harts)
             ∙ ticks_by (is_among k (before x n).harts) (x.guest.is_selected engine.guest k) (ticks k) (cut fast engine.guest k) (cut_is k)
-            ∙ ap₂ (λ (hs : List ℕ) (g : Guest). if is_among k hs then (if x.guest.is_selected g k then cut fast g k else 0) else 0) (sym begins_harts) (sym begins_guest)
+            ∙ ap₂ (λ (hs : List ℕ) (g : Timed). if is_among k hs then (if x.guest.is_selected g k then cut fast g k else 0) else 0) (sym begins_harts) (sym begins_guest)
 
     abbrev new_engine : Keys → Engine
     new_engine keys = record engine { schedule = keys }
@@ -221,8 +224,8 @@ module _ (image : ImageParts) (input : List ℕ) (setting : Setting) (engine : E
     reached_new keys is = record {
       reached = record {
         state = rest_forked x IsOrderly q n slow_law none
-            ∙ ap (λ (y : Experiment Guest). record (shortened y n) { dues = (shortened fast n).dues }) is_slow
-            ∙ ap (λ (s : Shortened Guest). record s { dues = (shortened fast n).dues }) p.reached.reached.state;
+            ∙ ap (λ (y : Experiment Timed). record (shortened y n) { dues = (shortened fast n).dues }) is_slow
+            ∙ ap (λ (s : Shortened Timed). record s { dues = (shortened fast n).dues }) p.reached.reached.state;
         dues = dues_new keys is;
       };
       room = ap length is ∙ sooner_length ticks engine.selected engine.schedule ∙ p.reached.room;
@@ -234,7 +237,7 @@ module _ (image : ImageParts) (input : List ℕ) (setting : Setting) (engine : E
           let few : engine.starts ≤ events_of engine + many engine.schedule = p.reached.few in
           omega arith;
       within = λ k u has.
-          within_new k u (key_of engine.schedule k) (if is_among k engine.selected then ticks k else 0) (10 ^ 16 + 4000 * (events_of engine + 1))
+          within_new k u (key_of engine.schedule k) (if is_among k engine.selected then ticks k else 0) (10 ^ 16 + most_ticks x.first.beside.timing * (events_of engine + 1))
           (sym (sooner_key ticks engine.selected engine.schedule k apart_new) ∙ ap (λ (keys : Keys). key_of keys k) (sym is) ∙ has) (p.reached.within k);
     }
 
@@ -248,10 +251,10 @@ module _ (image : ImageParts) (input : List ℕ) (setting : Setting) (engine : E
           reached = reached_new keys (sooner ∙ ap (λ (hs : List ℕ). with_sooner ticks hs engine.schedule) are);
           holds = holds;
           room = ap (λ (c : Delays). length c.harts) is ∙ raises_length ticks hs credits ∙ p.room;
-          visits = p.visits ∙ sym (ap (λ (o : Delayed Guest). o.visits) parts);
-          moment = p.moment ∙ sym (ap (λ (o : Delayed Guest). o.now) parts);
+          visits = p.visits ∙ sym (ap (λ (o : Delayed Timed). o.visits) parts);
+          moment = p.moment ∙ sym (ap (λ (o : Delayed Timed). o.now) parts);
           soon = p.soon;
           trap = p.trap;
           made = p.made;
-          selected = p.selected ∙ ap (λ (b : Before Guest). filter (x.guest.is_selected engine.guest) b.harts) (same_before x q n z);
+          selected = p.selected ∙ ap (λ (b : Before Timed). filter (x.guest.is_selected engine.guest) b.harts) (same_before x q n z);
         }

@@ -1,5 +1,5 @@
 -- The harts that a retirement of the guest makes or wakes are among those that were made by then, and each hart that it makes is one of them.
-use Rattle.std.proofs.Common.{◌≡◌, ℕ, zero, suc, ◌+◌, ◌%◌, ◌^◌, ◌<◌, ◌==◌, max, nat_le, nat_lt, Bool, true, false, not, ◌||◌, if◌then◌else◌, List, [], ◌∷◌, length, get_or, set, eqb, pos, ℤ, Option, Some, None, refl, sym, ap, ◌∙◌, subst, arith, replicate, length-append, ⊎_elim}
+use Rattle.std.proofs.Common.{◌≡◌, ℕ, suc, ◌+◌, ◌%◌, ◌^◌, ◌==◌, max, nat_le, nat_lt, Bool, true, false, not, ◌||◌, if◌then◌else◌, List, [], ◌∷◌, length, get_or, set, pos, ℤ, Option, Some, None, refl, sym, ap, ◌∙◌, subst, arith, replicate, length-append}
 use Rattle.std.specs.Int.{w32, to_le_bytes}
 use Rattle.std.proofs.lemmas.List.{length-set}
 use Rattle.coz_types.specs.declared.TheConstants.{HARTS}
@@ -15,7 +15,7 @@ use Rattle.guest_futex.specs.Waiters.{woken_harts}
 use Rattle.rv_execute.specs.declared.hart.Step.{Step}
 use Rattle.rv_execute.specs.declared.hart.Step.TheVariants.{Next, Call, Fault}
 use Rattle.guest_calls.specs.declared.hart.Hart.{Hart}
-use Rattle.guest_calls.specs.declared.hart.HartStatus.TheVariants.{Running, Waiting, Gone}
+use Rattle.guest_calls.specs.declared.hart.HartStatus.TheVariants.{Running}
 use Rattle.guest_calls.specs.declared.pieces.Piece.{Piece}
 use Rattle.guest_calls.specs.declared.times.Span.{Span}
 use Rattle.guest_calls.specs.Times.{span_at, span_bytes, wake_moment, last_moment, clock_at}

@@ -1,16 +1,16 @@
 -- The accounts and pauses of a delayed state, as credits hold them.
 use Rattle.std.specs.Prelude.{◌≡◌, ℕ, ◌+◌, ◌*◌, ◌^◌, ◌≤◌, ◌<◌, true, false, if◌then◌else◌, List, [], ◌∷◌, length, slice_index_or, Option, Some, None}
 use Rattle.coz_types.specs.declared.ending.Ending.{Ending}
-use Rattle.cost_table.specs.declared.TheConstants.{MAX_RAISE}
-use Rattle.cost_table.specs.Costs.{cycles_of, raise_of}
+use Rattle.cost_table.specs.Costs.{raise_of}
+use Rattle.run_engine.specs.Engine.{most_ticks}
 use Rattle.machines.specs.declared.Fate.{Fate}
 use Rattle.machines.specs.Guest.{goes_on, is_sleeper}
 use Rattle.machines.specs.Places.{change_each, change_from, is_among}
 use Rattle.machines.specs.Delayed.{Delayed, Hart, idle_hart, has_load, total, run, credit, raise_hart}
 use Rattle.delay_credits.specs.Delays.{Delays, hart_at, pause_of, at, with_start, with_stop}
 use Rattle.delay_credits.specs.Ticks.{without_work}
-use Rattle.guest_calls.specs.Guest.{Guest, IsMade}
-use Rattle.guest_calls.specs.Retire.{next_of}
+use Rattle.timed_guest.specs.Guest.{Timed, IsMade}
+use Rattle.timed_guest.specs.Retire.{cycles_of_next}
 use Rattle.run_engine.specs.declared.engine.Event.{Event}
 use Rattle.run_engine.specs.declared.engine.Event.TheVariants.{Woke, Retired}
 use Rattle.run_engine.specs.declared.engine.Engine.{Engine}
@@ -66,13 +66,13 @@ AllRest c hs = (k : ℕ) → is_among k hs ≡ true → Rests c k
 abbrev pub AllBelow : Delays → List ℕ → Type 0
 AllBelow c hs = (k : ℕ) → is_among k hs ≡ true → k < length c.harts
 
-abbrev pub AllMade : Guest → List ℕ → Type 0
+abbrev pub AllMade : Timed → List ℕ → Type 0
 AllMade g hs = (k : ℕ) → is_among k hs ≡ true → IsMade g k
 
 -- the ticks by which a hart's next instruction raises the delay if it is selected,
 -- at a speedup in per cent
-abbrev pub raise_ticks : Guest → ℕ → ℕ → ℕ
-raise_ticks g speedup hart = raise_of (cycles_of (next_of g hart)) speedup
+abbrev pub raise_ticks : Timed → ℕ → ℕ → ℕ
+raise_ticks g speedup hart = raise_of (cycles_of_next g hart) speedup
 
 -- after a retirement from which the run goes on: the harts that it made or woke are credited,
 -- all that it started run, and then the selected ones raise the delay in turn
@@ -95,7 +95,7 @@ credits_after None ticks hart fate others selected c = with_begun ticks hart fat
 credits_after (Some ending) ticks hart fate others selected c = c
 
 -- what the harts and the credits must be if it goes on
-pub record CanBegin (c : Delays) (g : Guest) (hart : ℕ) (fate : Fate)
+pub record CanBegin (c : Delays) (g : Timed) (hart : ℕ) (fate : Fate)
     (others raisers : List ℕ) : Type 0 where
   -- the hart that retired has all that was raised, and those that it made or woke don't run
   pub below : hart < length c.harts
@@ -106,7 +106,7 @@ pub record CanBegin (c : Delays) (g : Guest) (hart : ℕ) (fate : Fate)
   pub selected : (k : ℕ) → is_among k raisers ≡ true
       → is_among k (started_by hart fate others) ≡ true
   pub made : AllMade g raisers
-  pub few : c.raised + MAX_RAISE * length raisers ≤ 10 ^ 17
+  pub few : c.raised + most_ticks g.beside.timing * length raisers ≤ 10 ^ 17
 
 -- the run goes on, and so does the hart that retired, with no other made or woken
 pub record IsAlone (ending : Option Ending) (fate : Fate) (others : List ℕ) : Type 0 where
@@ -120,7 +120,8 @@ pub record CanWake (c : Delays) (engine : Engine) (hart now : ℕ) : Type 0 wher
   pub later : c.latest ≤ now
   pub runs : AllRun (with_starts (hart ∷ []) (at now c)) engine.selected
   pub made : AllMade engine.guest engine.selected
-  pub few : c.raised + MAX_RAISE * length engine.selected ≤ 10 ^ 17
+  pub few : c.raised
+      + most_ticks engine.guest.beside.timing * length engine.selected ≤ 10 ^ 17
 
 -- and for one to have retired
 pub record CanAccountRetirement (c : Delays) (engine : Engine) (hart : ℕ) (fate : Fate)

@@ -15,18 +15,18 @@ use Rattle.machines.specs.Steps.{Steps, Passes}
 use Rattle.machines.specs.Standing.{standing}
 use Rattle.machines.specs.Lead.{before}
 use Rattle.delay_credits.specs.Delays.{Delays}
-use Rattle.guest_calls.specs.Guest.{Guest, making}
+use Rattle.timed_guest.specs.Guest.{Timed, making}
 use Rattle.run_engine.specs.declared.choice.Setting.{Setting}
 use Rattle.run_engine.specs.declared.engine.Event.{Event}
 use Rattle.run_engine.specs.declared.engine.Event.TheVariants.{Woke, Retired}
 use Rattle.run_engine.specs.declared.engine.Engine.{Engine}
-use Rattle.run_engine.specs.Run.{IsChoice, experiment_in}
+use Rattle.run_engine.specs.Run.{IsSetting, experiment_in}
 use Rattle.run_engine.specs.Engine.{events_of, IsEngineOf}
 use Rattle.virtual_run.specs.Credited.{Holds}
 
 -- the net moment at which a hart of a run that goes on retires: as many ticks from now on as it
 -- works and pauses before it, less the global delay
-abbrev pub net_due_of : Delayed Guest → ℕ → Option ℕ
+abbrev pub net_due_of : {G : Type 0} → Delayed G → ℕ → Option ℕ
 net_due_of d hart =
     elim (d.ending) [
       | None ↦ option_map (λ load. d.now + load.work + load.pause - d.delay)
@@ -35,11 +35,11 @@ net_due_of d hart =
     ]
 
 -- the account of a hart that was made
-abbrev pub account_in : Delayed Guest → ℕ → Option Account
+abbrev pub account_in : {G : Type 0} → Delayed G → ℕ → Option Account
 account_in d hart = option_map (λ h. h.account) (slice_get d.harts hart)
 
 -- how a run that has ended came out
-abbrev pub outcome_of : Delayed Guest → Option Outcome
+abbrev pub outcome_of : {G : Type 0} → Delayed G → Option Outcome
 outcome_of d =
     option_map (λ ending. record {
       ending = ending;
@@ -69,25 +69,25 @@ pub record IsSmall (o : Outcome) : Type 0 where
 
 -- what an event takes the machine through: moves that end with a wake, without a retirement,
 -- or those that end with the next retirement
-abbrev pub Happens : Experiment Guest → Event → Delayed Guest → Delayed Guest → Type 0
+abbrev pub Happens : Experiment Timed → Event → Delayed Timed → Delayed Timed → Type 0
 Happens x (Woke turn) old new = Passes x old new × (new.ending ≡ None)
 Happens x (Retired retired) old new = Steps x old new
 
 -- before each move of the delayed run it agrees with the shortened one after as many
 -- retirements and wakes, and until the run ends the harts with a load are those that run or sleep
-pub record AgreesThroughout (x : Experiment Guest) : Type 0 where
+pub record AgreesThroughout (x : Experiment Timed) : Type 0 where
   pub agrees : (moves : ℕ) → Agrees (delayed x moves) (shortened x (events (delayed x moves)))
   pub timed : (moves : ℕ) → LoadsAreTimed x.guest (delayed x moves)
 
 -- the delayed run ends, and with one record alone
-abbrev pub EndsOnce : Experiment Guest → Type 0
+abbrev pub EndsOnce : Experiment Timed → Type 0
 EndsOnce x = (r : Record) × IsDelayed x r × ((other : Record) → IsDelayed x other → other ≡ r)
 
--- the choice is within the limits, and the fields stand for the state after as many retirements
+-- the setting is within the limits, and the fields stand for the state after as many retirements
 -- and wakes as the engine counts
 pub record IsPaced (image : ImageParts) (input : List ℕ) (setting : Setting) (engine : Engine)
     (credits : Delays) (now : ℕ) : Type 0 where
-  pub valid : IsChoice setting.choice
+  pub valid : IsSetting setting
   pub reached : IsEngineOf (experiment_in image input setting) engine
   pub holds : Holds credits (standing (experiment_in image input setting) (events_of engine))
   pub room : length credits.harts ≡ HARTS

@@ -2,18 +2,18 @@
 
 ghost use Rattle.std.specs.Prelude.{◌≡◌, ◌+◌, ◌*◌, ◌^◌, ◌≤◌, ◌<◌, [], ◌∷◌, length, map, None, if◌then◌else◌, IsTrue};
 ghost use Rattle.coz_types.specs.declared.TheConstants.{MAX_SPEEDUP};
-ghost use Rattle.cost_table.specs.declared.TheConstants.{MAX_RAISE};
+ghost use Rattle.run_engine.specs.Engine.{most_ticks};
 ghost use Rattle.machines.specs.Delayed.{has_load, total};
 ghost use Rattle.machines.specs.Guest.{goes_on};
 ghost use Rattle.delay_credits.specs.Delays.{hart_at, pause_of, at, with_stop};
-ghost use Rattle.guest_calls.specs.Guest.{IsMade};
+ghost use Rattle.timed_guest.specs.Guest.{IsMade};
 ghost use Rattle.virtual_run.specs.Credited.{raise_ticks, with_credits, with_starts, with_raises, with_begun, with_rest, with_wake, credits_after, moment_of, credited_by, CanAccount, AllRest, AllBelow, AllRun, AllMade, CanBegin, IsAlone};
 
-use cost_table::raise;
 use coz_types::{HartId, Tick};
 use delay_credits::Credits;
-use guest_calls::{Fate, Guest};
+use guest_calls::Fate;
 use run_engine::{Engine, Event, Retired, has_any};
+use timed_guest::TimedGuest;
 
 /// Each of these harts is credited with what its total lacks of its waker's,
 /// which is all that was raised.
@@ -53,24 +53,30 @@ fn start_each(credits: &mut Credits, harts: &[HartId], now: Tick)
 
 /// The ticks by which a hart's next instruction raises the delay if it is selected, at a
 /// speedup in per cent.
-pub fn raised_by(guest: &Guest, hart: HartId, speedup: u8) -> Tick
+pub fn raised_by(guest: &TimedGuest, hart: HartId, speedup: u8) -> Tick
     requires made { IsMade guest.now hart.0 }
     requires speedup { speedup ≤ MAX_SPEEDUP }
     ensures ticks { result ≡ raise_ticks guest.now speedup hart.0 }
-    ensures few { result ≤ MAX_RAISE }
+    ensures few { result ≤ most_ticks guest.now.beside.timing }
 {
-    raise(guest.next_cycles(hart), speedup)
+    guest.next_cycles(hart) * u64::from(speedup)
 }
 
 /// Raises the delay for each of these harts in turn at the latest moment, by its next instruction.
 #[inline(never)]
-pub fn raise_harts(credits: &mut Credits, guest: &Guest, harts: &[HartId], speedup: u8, now: Tick)
+pub fn raise_harts(
+    credits: &mut Credits,
+    guest: &TimedGuest,
+    harts: &[HartId],
+    speedup: u8,
+    now: Tick,
+)
     requires run { AllRun credits.old (map (λ hart. hart.0) harts.now) }
     requires made { AllMade guest.now (map (λ hart. hart.0) harts.now) }
     requires speedup { speedup ≤ MAX_SPEEDUP }
     requires now { credits.old.latest ≡ now }
-    requires few { credits.old.raised + MAX_RAISE * length (map (λ hart. hart.0) harts.now)
-        ≤ 10 ^ 17 }
+    requires few { credits.old.raised
+        + most_ticks guest.now.beside.timing * length (map (λ hart. hart.0) harts.now) ≤ 10 ^ 17 }
     ensures { credits.new
         ≡ with_raises (raise_ticks guest.now speedup) (map (λ hart. hart.0) harts.now) credits.old }
 {
@@ -85,7 +91,8 @@ pub fn raise_selected(credits: &mut Credits, engine: &Engine, speedup: u8, now: 
     requires made { AllMade engine.now.guest engine.now.selected }
     requires speedup { speedup ≤ MAX_SPEEDUP }
     requires now { credits.old.latest ≡ now }
-    requires few { credits.old.raised + MAX_RAISE * length engine.now.selected ≤ 10 ^ 17 }
+    requires few { credits.old.raised
+        + most_ticks engine.now.guest.beside.timing * length engine.now.selected ≤ 10 ^ 17 }
     ensures { credits.new
         ≡ with_raises (raise_ticks engine.now.guest speedup) engine.now.selected credits.old }
 {
@@ -171,7 +178,8 @@ fn wake_up(credits: &mut Credits, engine: &Engine, hart: HartId, speedup: u8, no
     requires run { AllRun (with_starts (hart.0 ∷ []) (at now credits.old)) engine.now.selected }
     requires made { AllMade engine.now.guest engine.now.selected }
     requires speedup { speedup ≤ MAX_SPEEDUP }
-    requires few { credits.old.raised + MAX_RAISE * length engine.now.selected ≤ 10 ^ 17 }
+    requires few { credits.old.raised
+        + most_ticks engine.now.guest.beside.timing * length engine.now.selected ≤ 10 ^ 17 }
     ensures { credits.new ≡ with_wake (raise_ticks engine.now.guest speedup)
         hart.0 engine.now.selected (at now credits.old) }
 {

@@ -8,9 +8,9 @@ ghost use Rattle.virtual_run.specs.Lead.{sooner_by, with_sooner};
 
 use crate::accounts::raised_by;
 use coz_types::{HartId, Tick};
-use guest_calls::Guest;
 use hart_schedule::Schedule;
 use run_engine::Engine;
+use timed_guest::TimedGuest;
 
 /// Makes the selected harts that began last due sooner. Each is due sooner by the ticks that
 /// `speedup` per cent take off its next instruction.
@@ -41,7 +41,7 @@ fn hasten(schedule: &mut Schedule, hart: HartId, ticks: Tick)
 
 /// Each of these harts is due sooner, by what a speedup in per cent takes off its next
 /// instruction.
-fn hasten_each(schedule: &mut Schedule, guest: &Guest, harts: &[HartId], speedup: u8)
+fn hasten_each(schedule: &mut Schedule, guest: &TimedGuest, harts: &[HartId], speedup: u8)
     requires made { AllMade guest.now (map (λ hart. hart.0) harts.now) }
     requires speedup { speedup ≤ MAX_SPEEDUP }
     ensures { schedule.new ≡ with_sooner (raise_ticks guest.now speedup)

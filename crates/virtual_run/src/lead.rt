@@ -3,6 +3,7 @@ ghost use Rattle.std.specs.Prelude.{◌≡◌, ◌≤◌, [], ◌∷◌, Some, n
 ghost use Rattle.coz_types.specs.declared.TheConstants.{MAX_SPEEDUP};
 ghost use Rattle.run_engine.specs.Seen.{machine_view, experiment_of};
 ghost use Rattle.virtual_run.specs.Lead.{arguments, starts_next, Stands, IsShared};
+ghost use Rattle.timing_model.specs.Timing.{usual};
 
 use crate::Machine;
 use coz_types::{Ending, Image, LineId};
@@ -11,6 +12,7 @@ use progress_points::Points;
 use run_engine::Choice;
 use std::alloc::{AllocError, Global};
 use std::marker::Model;
+use timing_model::Timing;
 
 /// A checkpoint of the delayed run of a program, while no instruction of the selected line was
 /// begun. Up to there the run is the same at every speedup, so the run at each speedup is forked
@@ -28,16 +30,17 @@ pub struct Lead<'a> {
 impl<'a> Model for Lead<'a> {
     ghost use Rattle.machines.specs.Delayed.{events};
     ghost use Rattle.machines.specs.Lead.{Before, before};
-    ghost use Rattle.guest_calls.specs.Guest.{Guest};
+    ghost use Rattle.timed_guest.specs.Guest.{Timed};
     ghost use Rattle.run_engine.specs.Seen.{Seen, experiment_of};
     ghost use Rattle.virtual_run.specs.Lead.{IsLead};
 
-    ghost Value = { Seen (Before Guest) };
+    ghost Value = { Seen (Before Timed) };
 
     ghost view = { λ l. record {
       image = l.machine.image;
       index = l.machine.index;
       points = l.machine.points;
+      timing = l.machine.timing;
       input = l.machine.input;
       choice = record l.machine.choice { speedup = l.speedup };
       state = before (experiment_of l.machine) (events l.machine.state);
@@ -50,9 +53,9 @@ impl<'a> Lead<'a> {
     ghost use Rattle.machines.specs.Delayed.{unbegun, begin, events};
     ghost use Rattle.machines.specs.Standing.{standing};
     ghost use Rattle.machines.specs.Lead.{at_speedup};
-    ghost use Rattle.run_engine.specs.Run.{IsChoice};
+    ghost use Rattle.run_engine.specs.Run.{IsChoice, IsMachine};
 
-    /// Before the first beginning, that of hart 0. The speedup isn't read.
+    /// Before the first beginning, that of hart 0, on the usual machine. The speedup isn't read.
     pub fn new(
         alloc: Global,
         image: &'a Image<'a>,
@@ -64,14 +67,35 @@ impl<'a> Lead<'a> {
         requires choice { IsChoice choice }
         requires selected { IsSome choice.selected }
         ensures { IfOk result (λ lead. lead ≡
-            machine_view image.now index.now points.now input.now choice (λ x.
+            machine_view image.now index.now points.now usual input.now choice (λ x.
+            record { state = unbegun x; harts = 0 ∷ [] })) }
+    {
+        Lead::on(alloc, image, index, points, Timing::usual(), input, choice)
+    }
+
+    /// The same on a machine of the timing model. A run of more than 10^10 instructions is one of
+    /// the usual machine.
+    pub fn on(
+        alloc: Global,
+        image: &'a Image<'a>,
+        index: &'a LineIndex,
+        points: &'a Points,
+        timing: Timing,
+        input: &'a [u8],
+        choice: Choice,
+    ) -> Result<Lead<'a>, AllocError>
+        requires choice { IsChoice choice }
+        requires machine { IsMachine timing choice.budget }
+        requires selected { IsSome choice.selected }
+        ensures { IfOk result (λ lead. lead ≡
+            machine_view image.now index.now points.now timing input.now choice (λ x.
             record { state = unbegun x; harts = 0 ∷ [] })) }
     {
         let whole = Choice {
             speedup: 0,
             ..choice
         };
-        let machine = Machine::new(alloc, image, index, points, input, whole)?;
+        let machine = Machine::on(alloc, image, index, points, timing, input, whole)?;
         Ok(Lead {
             machine,
             speedup: choice.speedup,

@@ -1,5 +1,5 @@
 //! The delayed machine: runs under virtual time with the delays of a selected line.
-ghost use Rattle.std.specs.Prelude.{◌≡◌, ◌+◌, ◌-◌, ◌^◌, ◌≤◌, ◌<◌, false, map, length, Some, None, IfOk, IfSome, IsSome, MatchOption, All, option_map, is_some, not, ◌&&◌, ◌==◌};
+ghost use Rattle.std.specs.Prelude.{◌≡◌, ◌+◌, ◌-◌, ◌*◌, ◌^◌, ◌≤◌, ◌<◌, false, map, length, Some, None, IfOk, IfSome, IsSome, MatchOption, All, option_map, is_some, not, nat_lt, slice_index_or, ◌&&◌, ◌==◌};
 ghost use Rattle.std.specs.List.Sorted.{IsNonDecreasingBy};
 ghost use Rattle.coz_types.specs.declared.TheConstants.{MAX_SPEEDUP, MAX_OUTPUT, MAX_VISITS};
 ghost use Rattle.hart_schedule.specs.Keys.{key_of};
@@ -8,6 +8,7 @@ ghost use Rattle.run_engine.specs.Seen.{machine_view, experiment_of};
 ghost use Rattle.virtual_run.specs.Lead.{arguments, is_unstarted};
 ghost use Rattle.virtual_run.specs.DelayedRun.{net_due_of, account_in, outcome_of, IsSmall, Happens, AgreesThroughout, EndsOnce};
 ghost use Rattle.machines.specs.KeptVisits.{visit_as};
+ghost use Rattle.timing_model.specs.Timing.{usual, IsUsual};
 
 use crate::accounts::{account_event, raise_harts, raise_selected};
 use crate::hasten::hasten_selected;
@@ -18,6 +19,7 @@ use progress_points::Points;
 use run_engine::{Choice, Engine, Event, FIRST, MarkedSetting, Setting, is_wake};
 use std::alloc::{AllocError, Global};
 use std::marker::Model;
+use timing_model::Timing;
 
 /// Whether the run of an engine has not ended and has counted no start.
 fn is_unstarted(engine: &Engine) -> bool
@@ -43,12 +45,12 @@ pub struct Machine<'a> {
 impl<'a> Model for Machine<'a> {
     ghost use Rattle.machines.specs.Delayed.{Delayed};
     ghost use Rattle.machines.specs.Standing.{standing};
-    ghost use Rattle.guest_calls.specs.Guest.{Guest};
+    ghost use Rattle.timed_guest.specs.Guest.{Timed};
     ghost use Rattle.run_engine.specs.Seen.{Seen, view_in};
     ghost use Rattle.run_engine.specs.Engine.{events_of};
     ghost use Rattle.virtual_run.specs.DelayedRun.{IsPaced};
 
-    ghost Value = { Seen (Delayed Guest) };
+    ghost Value = { Seen (Delayed Timed) };
 
     ghost view = { λ m.
         view_in m.image.now m.input.now m.setting (λ x. standing x (events_of m.engine)) };
@@ -59,16 +61,16 @@ impl<'a> Model for Machine<'a> {
 
 impl<'a> Machine<'a> {
     ghost use Rattle.machines.specs.Guest.{enough, is_timed};
-    ghost use Rattle.machines.specs.Delayed.{events};
+    ghost use Rattle.machines.specs.Delayed.{idle_hart, events};
     ghost use Rattle.machines.specs.Shortened.{shortened};
     ghost use Rattle.machines.specs.Agreement.{Agrees};
     ghost use Rattle.machines.specs.Steps.{Steps};
     ghost use Rattle.machines.specs.Standing.{standing, delayed_record};
     ghost use Rattle.machines.specs.Lead.{at_speedup, before};
     ghost use Rattle.machines.specs.Records.{net, record_of, IsDelayed, IsShortened, shortened_record};
-    ghost use Rattle.run_engine.specs.Run.{IsChoice};
+    ghost use Rattle.run_engine.specs.Run.{IsChoice, IsMachine};
 
-    /// A run that is about to begin.
+    /// A run that is about to begin, on the usual machine.
     pub fn new(
         alloc: Global,
         image: &'a Image<'a>,
@@ -79,12 +81,33 @@ impl<'a> Machine<'a> {
     ) -> Result<Machine<'a>, AllocError>
         requires { IsChoice choice }
         ensures { IfOk result (λ machine.
-            machine ≡ machine_view image.now index.now points.now input.now choice
+            machine ≡ machine_view image.now index.now points.now usual input.now choice
+            (λ x. standing x 0)) }
+    {
+        Machine::on(alloc, image, index, points, Timing::usual(), input, choice)
+    }
+
+    /// A run that is about to begin on a machine of the timing model. A run of more than 10^10
+    /// instructions is one of the usual machine.
+    pub fn on(
+        alloc: Global,
+        image: &'a Image<'a>,
+        index: &'a LineIndex,
+        points: &'a Points,
+        timing: Timing,
+        input: &'a [u8],
+        choice: Choice,
+    ) -> Result<Machine<'a>, AllocError>
+        requires choice { IsChoice choice }
+        requires machine { IsMachine timing choice.budget }
+        ensures { IfOk result (λ machine.
+            machine ≡ machine_view image.now index.now points.now timing input.now choice
             (λ x. standing x 0)) }
     {
         let setting = Setting {
             index,
             points,
+            timing,
             choice,
         };
         let mut credits = Credits::new(alloc, HARTS as u32)?;
@@ -292,10 +315,11 @@ impl<'a> Machine<'a> {
         self.moment
     }
 
-    /// The global delay, in ticks, at most 10^16.
+    /// The global delay, in ticks: at most 5 * 10^16, and on the usual machine at most 10^16.
     pub fn raised(&self) -> Tick
         ensures delay { result ≡ self.now.state.delay }
-        ensures small { result ≤ 10 ^ 16 }
+        ensures small { result ≤ 5 * 10 ^ 16 }
+        ensures usual { IsUsual self.now.timing → result ≤ 10 ^ 16 }
     {
         self.credits.raised()
     }
@@ -318,9 +342,13 @@ impl<'a> Machine<'a> {
     }
 
     /// A hart's account, whose three parts together are at most the global delay; None if
-    /// the hart was never made.
+    /// the hart was never made. That of a hart that never had a core has zeros.
     pub fn account(&self, hart: HartId) -> Option<Account>
-        ensures account { option_map account_as result ≡ account_in self.now.state hart.0 }
+        ensures made { is_some result ≡ nat_lt hart.0 (length self.now.state.guest.guest.harts) }
+        ensures account { IfSome result (λ account. account_as account
+            ≡ (slice_index_or self.now.state.harts hart.0 idle_hart).account) }
+        ensures usual { IsUsual self.now.timing
+            → option_map account_as result ≡ account_in self.now.state hart.0 }
         ensures within { IfSome result (λ account.
             account.own + account.paused + account.credited ≤ self.now.state.delay) }
     {
@@ -333,8 +361,8 @@ impl<'a> Machine<'a> {
 
     /// The number of harts that were made.
     pub fn harts(&self) -> u32
-        ensures guest { result ≡ length self.now.state.guest.harts }
-        ensures accounts { result ≡ length self.now.state.harts }
+        ensures guest { result ≡ length self.now.state.guest.guest.harts }
+        ensures accounts { IsUsual self.now.timing → result ≡ length self.now.state.harts }
         ensures few { result ≤ HARTS }
     {
         self.engine.guest.harts()
@@ -377,7 +405,7 @@ impl<'a> Machine<'a> {
 
     /// The output, at most 67,108,864 bytes.
     pub fn output(&self) -> &[u8]
-        ensures bytes { result.now ≡ self.now.state.guest.output }
+        ensures bytes { result.now ≡ self.now.state.guest.guest.output }
         ensures few { length result.now ≤ MAX_OUTPUT }
     {
         self.engine.guest.output()

@@ -23,6 +23,13 @@ started_is c =
 pub count_started-requires-clause-made : goal.count_started-requires-clause-made
 count_started-requires-clause-made c = λ k among. c.requires.made k (subst (λ (hs : List ℕ). is_among k hs ≡ true) (sym (started_is c)) among)
 
+pub count_started-requires-clause-room : goal.count_started-requires-clause-room
+count_started-requires-clause-room c =
+    let more = others_few c.in-Retired.retired.hart.0 c.in-Retired.retired.fate c.args.engine.now.started in
+    let is = ap length (started_is c) in
+    let room = c.requires.room in
+    omega arith
+
 pub count_started-requires-clause-few : goal.count_started-requires-clause-few
 count_started-requires-clause-few c =
     let more = others_few c.in-Retired.retired.hart.0 c.in-Retired.retired.fate c.args.engine.now.started in

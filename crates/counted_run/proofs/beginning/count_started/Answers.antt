@@ -17,23 +17,29 @@ count_each-requires-clause-made c = λ k among.
 
 pub count_each-requires-clause-within : goal.count_each-requires-clause-within
 count_each-requires-clause-within c =
-    subst IsWithin (sym c.count_again.ensures)
-    (fold_within c.args.index.now c.args.engine.now.guest (started_by c.args.retired.hart.0 c.args.retired.fate []) (counts_of c.args.tallies.now) c.requires.within)
+    subst IsWithin (sym c.count_again.ensures.counts)
+    (fold_within c.args.engine.now.guest (started_by c.args.retired.hart.0 c.args.retired.fate []) (counts_of c.args.tallies.now) c.requires.within)
 
 pub count_each-requires-clause-few : goal.count_each-requires-clause-few
 count_each-requires-clause-few c =
     let started = started_by c.args.retired.hart.0 c.args.retired.fate [] in
-    let more = ap (λ (c : Counts). c.begun) c.count_again.ensures ∙ fold_begun c.args.index.now c.args.engine.now.guest started (counts_of c.args.tallies.now) in
+    let more = ap (λ (c : Counts). c.begun) c.count_again.ensures.counts ∙ fold_begun c.args.engine.now.guest started (counts_of c.args.tallies.now) in
     let one = one_at_most c.args.retired.hart.0 c.args.retired.fate in
     let long = sym (length-map c.started.result.now (λ (hart : HartId). hart.0)) ∙ ap length c.started.ensures in
     let few = c.requires.few in
     omega arith
 
+pub count_each-requires-clause-room : goal.count_each-requires-clause-room
+count_each-requires-clause-room c =
+    let small = c.count_again.ensures.small in
+    let long = sym (length-map c.started.result.now (λ (hart : HartId). hart.0)) ∙ ap length c.started.ensures in
+    let room = c.requires.room in
+    omega arith
+
 pub returns : goal.returns
 returns c =
-    let index = c.args.index.now in
     let g = c.args.engine.now.guest in
     c.count_each.ensures
-    ∙ ap (fold (with_hart index g) (counts_of c.count_again.new.tallies)) c.started.ensures
-    ∙ ap (λ (n : Counts). fold (with_hart index g) n c.args.engine.now.started) c.count_again.ensures
-    ∙ both_folded index g c.args.retired.hart.0 c.args.retired.fate c.args.engine.now.started (counts_of c.args.tallies.now)
+    ∙ ap (fold (with_hart g) (counts_of c.count_again.new.tallies)) c.started.ensures
+    ∙ ap (λ (n : Counts). fold (with_hart g) n c.args.engine.now.started) c.count_again.ensures.counts
+    ∙ both_folded g c.args.retired.hart.0 c.args.retired.fate c.args.engine.now.started (counts_of c.args.tallies.now)

@@ -6,4 +6,4 @@ use Rattle.coz_commands.proofs.runs.accounts.Goals as goal
 pub loop-number-preserved : goal.loop-number-preserved
 loop-number-preserved c =
     ap (map account_as) c.in_ok-push.ensures.items
-    ∙ one_account c.loop-number.accounts.items c.in-Some.account c.args.machine.now.state.harts c.loop-number.number c.loop-number.invariant c.in-Some.ensures.account
+    ∙ one_account c.loop-number.accounts.items c.in-Some.account c.args.machine.now.state.harts c.loop-number.number c.loop-number.invariant (c.in-Some.ensures.usual c.requires)

@@ -3,8 +3,8 @@ use Rattle.std.specs.Prelude.{IsSome}
 use Rattle.coz_commands.specs.Verdict.{ended_verdict, run_verdict}
 use Rattle.coz_commands.proofs.runs.machine_answer.Goals as goal
 
-pub machine_text-requires : goal.machine_text-requires
-machine_text-requires c = subst IsSome (sym c.run-ending.ensures.ended) refl
+pub machine_text-requires-clause-ended : goal.machine_text-requires-clause-ended
+machine_text-requires-clause-ended c = subst IsSome (sym c.run-ending.ensures.ended) refl
 
 pub returns-clause-verdict : goal.returns-clause-verdict
 returns-clause-verdict c = λ other.

@@ -16,7 +16,7 @@ returns-in_err-points-clause-memory g c =
 pub returns-clause-summaries : goal.returns-clause-summaries
 returns-clause-summaries g c =
     summaries_of_trial c.args.program.now.image c.args.program.now.index c.in_ok-points.points c.args.point.0 c.in_ok-plan.plan c.new.result
-    c.in_ok-points.ensures.points c.in_ok-plan.ensures.plan (c.new.ensures ∙ c.in_ok-summaries.ensures.summaries)
+    c.in_ok-points.ensures.points c.in_ok-plan.ensures.plan (c.new.ensures ∙ c.in_ok-summaries.ensures.usual c.usual.ensures.usual)
 
 pub returns-clause-ranges : goal.returns-clause-ranges
 returns-clause-ranges g c =

@@ -5,7 +5,7 @@ use Rattle.critical_path.proofs.Walking.{first_is, steady_now, more_left, can_re
 use Rattle.critical_path.proofs.walked.trace_engine.Goals as goal
 
 pub loop-engine-init : goal.loop-engine-init
-loop-engine-init c = λ image input first. first_is image input _ _ _ _ c.requires.choice c.requires.few first c.in_ok-walked.ensures.events c.in_ok-walked.ensures.room c.in_ok-walked.ensures.causes
+loop-engine-init c = λ image input first. first_is image input _ _ _ _ c.requires.setting c.requires.few first c.in_ok-walked.ensures.events c.in_ok-walked.ensures.room c.in_ok-walked.ensures.causes
 
 pub address_due-address-requires : goal.address_due-address-requires
 address_due-address-requires c =
@@ -40,5 +40,5 @@ loop-engine-smaller c =
 
 pub returns : goal.returns
 returns c =
-    traced_done c.trace_of.result (λ t. IsMadeOf t c.in-Some.ending c.loop-engine.walked.events.items c.loop-engine.engine.guest.output) _
+    traced_done c.trace_of.result (λ t. IsMadeOf t c.in-Some.ending c.loop-engine.walked.events.items c.loop-engine.engine.guest.guest.output) _
     (λ t made. λ image input first. done image input _ _ _ _ (c.loop-engine.invariant image input first) c.in-Some.ending (sym c.ending-2.ensures ∙ c.in-Some.is) t made) c.trace_of.ensures

@@ -10,7 +10,7 @@ returns-clause-verdict c = λ other.
     let input = c.args.input.now in
     let points = c.in_ok-points.points in
     let run = c.in_ok-found.found in
-    run_is asked program.image program.index input points run c.in_ok-points.ensures.points c.in_ok-found.ensures.ending (c.in_ok-found.ensures.text asked.names)
+    run_is asked program.image program.index input points _ run c.usual.ensures.usual c.in_ok-points.ensures.points c.in_ok-found.ensures.ending (c.in_ok-found.ensures.text asked.names)
     ∙ c.in_ok-points.ensures.verdict (λ never. never) (of_points asked program.image program.index input)
     ∙ list_is asked program.image program.index input _ c.bytes_of.ensures
 

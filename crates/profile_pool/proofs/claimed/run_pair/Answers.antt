@@ -4,7 +4,7 @@ use Rattle.line_index.specs.Lines.{label}
 use Rattle.machines.specs.Records.{record_of}
 use Rattle.machines.specs.Standing.{delayed_record}
 use Rattle.run_engine.specs.Seen.{Seen, experiment_of}
-use Rattle.profile_pool.specs.Summaries.{summary_in}
+use Rattle.profile_pool.specs.Subjects.{summary_on}
 use Rattle.profile_pool.specs.Made.{parts_made}
 use Rattle.profile_pool.proofs.Summing.{summary_at}
 use Rattle.profile_pool.proofs.Making.{for_any, forked}
@@ -27,7 +27,7 @@ returns-clause-machine c =
     for_any work (Some c.args.pair.line.0) _ c.run.new.self (ap parts_made c.run.ensures.rest ∙ is)
 
 pub returns-clause-summary : goal.returns-clause-summary
-unfolding summary_in
+unfolding summary_on
 returns-clause-summary c =
     let work = c.args.work.now in
     let pair = c.args.pair in

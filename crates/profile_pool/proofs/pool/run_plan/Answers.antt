@@ -1,13 +1,12 @@
-use Rattle.std.proofs.Common.{◌∙◌, sym}
+use Rattle.std.proofs.Common.{◌≡◌, ◌≤◌, List, IfOk, subst}
+use Rattle.std.specs.List.{All}
 use Rattle.experiment_plan.specs.declared.experiment.Experiment.{Experiment}
 use Rattle.coz_types.specs.declared.record.Summary.{Summary}
-use Rattle.profile_pool.specs.Summaries.{summary_in}
-use Rattle.profile_pool.proofs.Lines.{no_lines}
+use Rattle.profile_pool.proofs.Usual.{usual_summaries}
 use Rattle.profile_pool.proofs.pool.run_plan.Goals as goal
 
--- a plan with no line has no summary
-pub returns-then-lines-eq0-clause-summaries : goal.returns-then-lines-eq0-clause-summaries
-returns-then-lines-eq0-clause-summaries g c =
-    let s : Experiment → Summary =
-    λ pair. summary_in c.args.subject.now.image.now c.args.subject.now.index.now c.args.subject.now.points.now c.args.subject.now.input.now c.args.budget pair.line.0 pair.speedup in
-    c.new.ensures.items ∙ no_lines s c.args.plan.now (sym c.line_count-lines.ensures.count ∙ c.if-lines-eq0.true)
+pub returns-clause-usual : goal.returns-clause-usual
+returns-clause-usual g c = λ usual.
+    subst (λ (summaries : List Summary). IfOk c.run_lines.result (λ v. v.items ≡ summaries))
+    (usual_summaries c.args.subject.now usual c.args.budget c.args.plan.now (subst (λ pairs. All (λ (pair : Experiment). pair.speedup ≤ 95) pairs) c.pairs.ensures.pairs c.pairs.ensures.speedups))
+    c.run_lines.ensures.summaries

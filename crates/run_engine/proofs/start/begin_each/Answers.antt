@@ -3,8 +3,8 @@ use Rattle.std.proofs.Math.Seq.{drop-cons}
 use Rattle.std.proofs.lemmas.List.{drop_all, append-nil}
 use Rattle.coz_types.specs.declared.HartId.{HartId}
 use Rattle.hart_schedule.specs.Keys.{Keys, with_key}
-use Rattle.guest_calls.specs.Guest.{Guest, pc_of}
-use Rattle.run_engine.specs.Run.{is_selecting, ticks_in}
+use Rattle.timed_guest.specs.Guest.{Timed}
+use Rattle.run_engine.specs.Run.{is_selected_in, ticks_in}
 use Rattle.run_engine.proofs.Begin.{IsBeginning, beginning, first_idle, room_left, one_more}
 use Rattle.run_engine.proofs.start.begin_each.Goals as goal
 
@@ -18,11 +18,11 @@ next_of harts i below = ap (map (λ hart. hart.0)) (drop-cons harts i (record { 
 
 pub loop-hart-init : goal.loop-hart-init
 loop-hart-init c =
-    beginning c.args.guest.now (ticks_in c.args.setting.now c.args.guest.now) (λ hart. is_selecting c.args.setting.now (pc_of c.args.guest.now hart)) c.args.moment
+    beginning c.args.guest.now (ticks_in c.args.setting.now c.args.guest.now) (is_selected_in c.args.setting.now c.args.guest.now) c.args.moment
     (map (λ hart. hart.0) c.args.harts.now) c.args.schedule.now c.args.selected.now c.requires.idle c.requires.room c.requires.few
 
 -- the next hart is to begin, and then the rest
-going_on : (g : Guest) (ticks : ℕ → ℕ) (p : ℕ → Bool) (m : ℕ) (harts : List HartId) (old : Keys) (before : List ℕ) (i : ℕ) (now : Keys) (chosen : List ℕ) → i < length harts
+going_on : (g : Timed) (ticks : ℕ → ℕ) (p : ℕ → Bool) (m : ℕ) (harts : List HartId) (old : Keys) (before : List ℕ) (i : ℕ) (now : Keys) (chosen : List ℕ) → i < length harts
     → IsBeginning g ticks p m (numbers harts) old before (numbers (drop i harts)) now chosen
     → IsBeginning g ticks p m (numbers harts) old before ((get_or harts i (record { 0 = 0 })).0 ∷ numbers (drop (i + 1) harts)) now chosen
 going_on g ticks p m harts old before i now chosen below b =
@@ -46,9 +46,9 @@ pub loop-hart-preserved : goal.loop-hart-preserved
 unfolding numbers
 loop-hart-preserved c =
     let l = c.loop-hart in
-    let g : Guest = c.args.guest.now in
+    let g : Timed = c.args.guest.now in
     let ticks : ℕ → ℕ = ticks_in c.args.setting.now g in
-    let p : ℕ → Bool = λ hart. is_selecting c.args.setting.now (pc_of g hart) in
+    let p : ℕ → Bool = is_selected_in c.args.setting.now g in
     let m : ℕ = c.args.moment in
     let all : List ℕ = numbers c.args.harts.now in
     let hart : ℕ = (get_or c.args.harts.now l.hart-index (record { 0 = 0 })).0 in

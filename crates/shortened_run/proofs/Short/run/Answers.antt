@@ -1,13 +1,11 @@
-use Rattle.std.proofs.Common.{◌≡◌, ◌<◌, ◌+◌, ◌*◌, ◌∙◌, ap, sym, arith}
-use Rattle.line_index.specs.Index.{position_at}
-use Rattle.progress_points.specs.Points.{point_of}
+use Rattle.std.proofs.Common.{◌≡◌, ◌<◌, ◌*◌, ◌∙◌, ap, sym, arith}
 use Rattle.machines.specs.Shortened.{Shortened}
-use Rattle.guest_calls.specs.Guest.{Guest}
+use Rattle.timed_guest.specs.Guest.{Timed}
 use Rattle.run_engine.specs.declared.choice.Setting.{Setting}
 use Rattle.run_engine.specs.Run.{experiment_in}
 use Rattle.run_engine.specs.Seen.{Seen, view_in, experiment_of}
 use Rattle.run_engine.specs.Engine.{events_of}
-use Rattle.run_engine.proofs.Law.{steady, none_is, ended_now}
+use Rattle.run_engine.proofs.Law.{steady, on_machine, none_is, ended_now}
 use Rattle.shortened_run.proofs.Law.{short_far, far_count, short_below, recorded_of, last_of, shortened_of, same_seen}
 use Rattle.shortened_run.proofs.Short.run.Goals as goal
 use Rattle.shortened_run.proofs.Short.run.Goals.{In-Some}
@@ -16,11 +14,17 @@ pub advance_far-requires-clause-steady : goal.advance_far-requires-clause-steady
 advance_far-requires-clause-steady c =
     let now = c.loop-self.self-inside in
     let short = c.loop-self.invariant.0 in
-    steady now.image.now (position_at now.setting.index.now) (point_of now.setting.points.now) now.input.now now.setting.choice short.valid now.engine short.reached
+    steady now.image.now now.input.now now.setting short.valid now.engine short.reached
     (sym c.ending.ensures ∙ none_is c.ending.result c.is_none.result c.is_none.ensures c.loop-self-test.true)
 
-pub advance_far-requires-clause-choice : goal.advance_far-requires-clause-choice
-advance_far-requires-clause-choice c = c.loop-self.invariant.0.valid
+pub advance_far-requires-clause-setting : goal.advance_far-requires-clause-setting
+advance_far-requires-clause-setting c = c.loop-self.invariant.0.valid
+
+pub advance_far-requires-clause-machine : goal.advance_far-requires-clause-machine
+advance_far-requires-clause-machine c =
+    let now = c.loop-self.self-inside in
+    let short = c.loop-self.invariant.0 in
+    on_machine now.image.now now.input.now now.setting short.valid now.engine short.reached
 
 pub loop-self-preserved : goal.loop-self-preserved
 loop-self-preserved c =
@@ -46,29 +50,32 @@ pub returns-clause-ended : goal.returns-clause-ended
 returns-clause-ended c =
     let now = c.loop-self.self-inside in
     let short = c.loop-self.invariant.0 in
-    ended_now now.image.now (position_at now.setting.index.now) (point_of now.setting.points.now) now.input.now now.setting.choice short.valid now.engine short.reached c.in-Some.ending (sym c.ending-2.ensures ∙ c.in-Some.is)
+    ended_now now.image.now now.input.now now.setting short.valid now.engine short.reached c.in-Some.ending (sym c.ending-2.ensures ∙ c.in-Some.is)
 
 -- the setting and what else is run are those of the call
 image_is : (c : In-Some) → c.loop-self.self-inside.image.now ≡ c.args.self.now.image
-image_is c = c.loop-self.invariant.1 ∙ ap (λ (s : Seen (Shortened Guest)). s.image) c.self.view_is
+image_is c = c.loop-self.invariant.1 ∙ ap (λ (s : Seen (Shortened Timed)). s.image) c.self.view_is
 
 index_is : (c : In-Some) → c.loop-self.self-inside.setting.index.now ≡ c.args.self.now.index
-index_is c = ap (λ (s : Setting). s.index.now) c.loop-self.invariant.3 ∙ ap (λ (s : Seen (Shortened Guest)). s.index) c.self.view_is
+index_is c = ap (λ (s : Setting). s.index.now) c.loop-self.invariant.3 ∙ ap (λ (s : Seen (Shortened Timed)). s.index) c.self.view_is
 
 points_are : (c : In-Some) → c.loop-self.self-inside.setting.points.now ≡ c.args.self.now.points
-points_are c = ap (λ (s : Setting). s.points.now) c.loop-self.invariant.3 ∙ ap (λ (s : Seen (Shortened Guest)). s.points) c.self.view_is
+points_are c = ap (λ (s : Setting). s.points.now) c.loop-self.invariant.3 ∙ ap (λ (s : Seen (Shortened Timed)). s.points) c.self.view_is
+
+timing_is : (c : In-Some) → c.loop-self.self-inside.setting.timing ≡ c.args.self.now.timing
+timing_is c = ap (λ (s : Setting). s.timing) c.loop-self.invariant.3 ∙ ap (λ (s : Seen (Shortened Timed)). s.timing) c.self.view_is
 
 input_is : (c : In-Some) → c.loop-self.self-inside.input.now ≡ c.args.self.now.input
-input_is c = c.loop-self.invariant.2 ∙ ap (λ (s : Seen (Shortened Guest)). s.input) c.self.view_is
+input_is c = c.loop-self.invariant.2 ∙ ap (λ (s : Seen (Shortened Timed)). s.input) c.self.view_is
 
 choice_is : (c : In-Some) → c.loop-self.self-inside.setting.choice ≡ c.args.self.now.choice
-choice_is c = ap (λ (s : Setting). s.choice) c.loop-self.invariant.3 ∙ ap (λ (s : Seen (Shortened Guest)). s.choice) c.self.view_is
+choice_is c = ap (λ (s : Setting). s.choice) c.loop-self.invariant.3 ∙ ap (λ (s : Seen (Shortened Timed)). s.choice) c.self.view_is
 
-seen_is : (c : In-Some) (state : Shortened Guest)
+seen_is : (c : In-Some) (state : Shortened Timed)
     → view_in c.loop-self.self-inside.image.now c.loop-self.self-inside.input.now c.loop-self.self-inside.setting (λ _. state) ≡ record c.args.self.now { state = state }
 seen_is c state =
-    same_seen c.loop-self.self-inside.image.now c.args.self.now.image c.loop-self.self-inside.setting.index.now c.args.self.now.index c.loop-self.self-inside.setting.points.now c.args.self.now.points
-    c.loop-self.self-inside.input.now c.args.self.now.input c.loop-self.self-inside.setting.choice c.args.self.now.choice state (image_is c) (index_is c) (points_are c) (input_is c) (choice_is c)
+    same_seen c.loop-self.self-inside.image.now c.args.self.now.image c.loop-self.self-inside.setting.index.now c.args.self.now.index c.loop-self.self-inside.setting.points.now c.args.self.now.points c.loop-self.self-inside.setting.timing c.args.self.now.timing
+    c.loop-self.self-inside.input.now c.args.self.now.input c.loop-self.self-inside.setting.choice c.args.self.now.choice state (image_is c) (index_is c) (points_are c) (timing_is c) (input_is c) (choice_is c)
 
 -- so what is run is what was to be run
 as_before : (c : In-Some) → experiment_of c.args.self.now ≡ experiment_in c.loop-self.self-inside.image.now c.loop-self.self-inside.input.now c.loop-self.self-inside.setting

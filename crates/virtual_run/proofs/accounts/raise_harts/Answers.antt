@@ -1,5 +1,6 @@
 use Rattle.std.proofs.Common.{◌≡◌, ℕ, List, ◌+◌, ◌≤◌, ◌∷◌, drop, get_or, ap, subst, sym, ◌∙◌}
 use Rattle.delay_credits.specs.Delays.{Delays, with_raise}
+use Rattle.run_engine.specs.Engine.{most_ticks}
 use Rattle.virtual_run.specs.Credited.{raise_ticks, with_raises}
 use Rattle.virtual_run.proofs.CreditedLists.{numbers, next_number, no_numbers, among_first, among_at, IsRaising, raised_one}
 use Rattle.virtual_run.proofs.accounts.raise_harts.Goals as goal
@@ -23,16 +24,17 @@ raise-requires-clause-running c =
 pub loop-hart-preserved : goal.loop-hart-preserved
 loop-hart-preserved c =
     let ticks : ℕ → ℕ = raise_ticks c.args.guest.now c.args.speedup in
+    let most : ℕ = most_ticks c.args.guest.now.beside.timing in
     let goal_is : Delays = with_raises ticks (numbers c.args.harts.now) c.args.credits.now in
     let hart : ℕ = (get_or c.args.harts.now c.loop-hart.hart-index (record { 0 = 0 })).0 in
     let rest : List ℕ = numbers (drop (c.loop-hart.hart-index + 1) c.args.harts.now) in
-    let now : IsRaising ticks c.args.now goal_is (hart ∷ rest) c.loop-hart.credits =
-    subst (λ (left : List ℕ). IsRaising ticks c.args.now goal_is left c.loop-hart.credits)
+    let now : IsRaising most ticks c.args.now goal_is (hart ∷ rest) c.loop-hart.credits =
+    subst (λ (left : List ℕ). IsRaising most ticks c.args.now goal_is left c.loop-hart.credits)
     (next_number c.args.harts.now c.loop-hart.hart-index c.loop-hart-test.true) c.loop-hart.invariant in
-    let small : ticks hart ≤ 3800 = subst (λ (n : ℕ). n ≤ 3800) c.raised_by.ensures.ticks c.raised_by.ensures.few in
+    let small : ticks hart ≤ most = subst (λ (n : ℕ). n ≤ most) c.raised_by.ensures.ticks c.raised_by.ensures.few in
     let is : c.raise.new.self ≡ with_raise hart (ticks hart) c.args.now c.loop-hart.credits = c.raise.ensures ∙ ap (λ (n : ℕ). with_raise hart n c.args.now c.loop-hart.credits) c.raised_by.ensures.ticks in
-    subst (IsRaising ticks c.args.now goal_is rest) (sym is)
-    (raised_one ticks hart c.args.now goal_is rest c.loop-hart.credits small now)
+    subst (IsRaising most ticks c.args.now goal_is rest) (sym is)
+    (raised_one most ticks hart c.args.now goal_is rest c.loop-hart.credits small now)
 
 pub returns : goal.returns
 returns c =

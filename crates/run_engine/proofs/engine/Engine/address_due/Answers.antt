@@ -1,6 +1,6 @@
 use Rattle.std.proofs.Common.{ap, is_some, ◌∙◌}
-use Rattle.guest_calls.specs.Guest.{pc_of}
-use Rattle.guest_calls.proofs.Law.{timed_low}
+use Rattle.timed_guest.specs.Guest.{pc_of}
+use Rattle.timed_guest.proofs.Law.{timed_low}
 use Rattle.run_engine.proofs.Keys.{least_one}
 use Rattle.run_engine.proofs.engine.Engine.address_due.Goals as goal
 

@@ -1,5 +1,5 @@
 use Rattle.std.proofs.Common.{ap, is_some, ◌∙◌}
-use Rattle.guest_calls.proofs.Law.{timed_low}
+use Rattle.timed_guest.proofs.Law.{timed_low}
 use Rattle.run_engine.proofs.engine.Engine.advance.Goals as goal
 
 pub is_sleeping-requires : goal.is_sleeping-requires

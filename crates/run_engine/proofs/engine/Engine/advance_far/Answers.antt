@@ -1,5 +1,5 @@
 use Rattle.std.proofs.Common.{ℕ, ◌+◌, ap, is_some, ◌∙◌, refl, subst, sym}
-use Rattle.guest_calls.proofs.Law.{timed_low}
+use Rattle.timed_guest.proofs.Law.{timed_low}
 use Rattle.run_engine.specs.declared.engine.Event.TheVariants.{Retired}
 use Rattle.run_engine.specs.Far.{IsFarRetired, HasPassed}
 use Rattle.run_engine.proofs.Far.{quiet_then, far_then}
@@ -12,7 +12,7 @@ is_sleeping-requires c =
     (timed_low s.guest h c.loop-self.invariant.steady.orderly (c.loop-self.invariant.steady.timed h ∙ ap is_some c.first_turn-turn.ensures.due)).0
 
 pub loop-self-init : goal.loop-self-init
-loop-self-init c = record { far = (0, refl); steady = c.requires.steady }
+loop-self-init c = record { far = (0, refl); steady = c.requires.steady; machine = c.requires.machine }
 
 pub returns-in-Some : goal.returns-in-Some
 returns-in-Some c =
@@ -28,4 +28,5 @@ loop-self-preserved c =
     record {
       far = (passed.count + far.0, quiet_then c.args.marked.now far.0 passed.count c.args.self.now c.loop-self.self c.pass.new.self far.1 passed.quiet);
       steady = passed.steady;
+      machine = passed.machine;
     }

@@ -1,5 +1,5 @@
 use Rattle.std.proofs.Common.{ℕ, ◌-◌}
-use Rattle.run_engine.specs.Engine.{IsSteady}
+use Rattle.run_engine.specs.Engine.{IsSteady, IsOnMachine}
 use Rattle.run_engine.specs.Far.{AreQuiet}
 use Rattle.run_engine.proofs.engine.Engine.advance_far.Given as goal
 
@@ -8,6 +8,7 @@ abbrev pub invariant-loop-self : goal.invariant-loop-self
 invariant-loop-self l = record {
   far : (n : ℕ) × AreQuiet l.marked n l.fn.self l.self;
   steady : IsSteady l.self;
+  machine : IsOnMachine l.marked l.self;
 }
 
 abbrev pub decreases-loop-self : goal.decreases-loop-self

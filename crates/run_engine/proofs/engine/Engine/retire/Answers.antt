@@ -2,8 +2,8 @@ use Rattle.std.proofs.Common.{◌≡◌, ◌∙◌, ℕ, ◌^◌, ◌≤◌, ◌
 use Rattle.hart_schedule.specs.Keys.{Keys}
 use Rattle.machines.specs.declared.Fate.{Fate}
 use Rattle.machines.specs.Guest.{Retirement}
-use Rattle.guest_calls.specs.Guest.{Guest}
-use Rattle.guest_calls.proofs.Law.{sleeps_few}
+use Rattle.timed_guest.specs.Guest.{Timed}
+use Rattle.timed_guest.proofs.Law.{sleeps_few}
 use Rattle.run_engine.specs.Begin.{keys_at_rest, many}
 use Rattle.run_engine.proofs.Keys.{has_place}
 use Rattle.run_engine.proofs.Many.{many_few}
@@ -42,7 +42,7 @@ complete-requires c =
       moment = search rules;
       wake = λ moment sleeps.
           let few : moment ≤ 10 ^ 16 = sleeps_few c.args.self.now.guest h c.args.turn.due c.requires.steady.orderly c.requires.running moment
-          (ap (λ (r : Retirement Guest). r.fate) (sym c.retire_due-fate.ensures.effect) ∙ sleeps) in
+          (ap (λ (r : Retirement Timed). r.fate) (sym c.retire_due-fate.ensures.effect) ∙ sleeps) in
           omega (arith, few);
       speedup = c.requires.speedup;
       room = room;

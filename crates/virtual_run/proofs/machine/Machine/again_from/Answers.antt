@@ -1,12 +1,11 @@
 use Rattle.std.proofs.Common.{◌≡◌, [], ◌∷◌, length, ap, subst, sym, ◌∙◌}
 use Rattle.delay_credits.specs.Delays.{Delays}
-use Rattle.guest_calls.specs.Guest.{IsMade}
+use Rattle.timed_guest.specs.Guest.{IsMade}
 use Rattle.run_engine.specs.declared.choice.Setting.{Setting}
 use Rattle.run_engine.specs.declared.engine.Engine.{Engine}
 use Rattle.virtual_run.specs.DelayedRun.{IsPaced}
 use Rattle.run_engine.specs.Run.{selected_of}
 use Rattle.run_engine.specs.Engine.{events_of}
-use Rattle.virtual_run.proofs.CreditedRun.{seen_of}
 use Rattle.virtual_run.proofs.Again.{lined_setting, first_is_made, again_paced}
 use Rattle.virtual_run.proofs.Leads.{whole_seen, zero_seen, again_seen}
 use Rattle.virtual_run.proofs.machine.Machine.again_from.Goals as goal

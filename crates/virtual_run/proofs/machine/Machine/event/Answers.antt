@@ -16,7 +16,7 @@ advance-event-requires-clause-steady c =
 pub advance-event-requires-clause-delay : goal.advance-event-requires-clause-delay
 advance-event-requires-clause-delay c =
     let m = c.self.inside in
-    let few : m.credits.raised ≤ 10 ^ 16 = raised_few m.image.now m.input.now m.setting m.engine m.credits m.moment c.self.invariant in
+    let few : m.credits.raised ≤ 41 * 10 ^ 15 = raised_few m.image.now m.input.now m.setting m.engine m.credits m.moment c.self.invariant in
     omega (arith, c.raised-raised.ensures)
 
 pub account_event-self-inside-requires-clause-few : goal.account_event-self-inside-requires-clause-few
@@ -26,8 +26,8 @@ account_event-self-inside-requires-clause-few c =
     let event = c.advance-event.result in
     let delay : ℕ = c.raised-raised.result in
     let none : m.engine.ending ≡ None = goes_seen m.image.now m.input.now m.setting m.engine m.credits m.moment c.self.invariant c.args.self.now c.self.view_is c.requires in
-    let few : m.credits.raised ≤ 10 ^ 16 = raised_few m.image.now m.input.now m.setting m.engine m.credits m.moment c.self.invariant in
-    let time : moment_of event new ≤ 2 * 10 ^ 16 = event_few m.image.now m.input.now m.setting m.engine m.credits m.moment c.self.invariant new event delay c.raised-raised.ensures none (rw c.setting.ensures at c.advance-event.ensures) in
+    let few : m.credits.raised ≤ 41 * 10 ^ 15 = raised_few m.image.now m.input.now m.setting m.engine m.credits m.moment c.self.invariant in
+    let time : moment_of event new ≤ 51 * 10 ^ 15 = event_few m.image.now m.input.now m.setting m.engine m.credits m.moment c.self.invariant new event delay c.raised-raised.ensures none (rw c.setting.ensures at c.advance-event.ensures) in
     omega (arith, c.raised-raised.ensures)
 
 pub account_event-self-inside-requires-clause-can : goal.account_event-self-inside-requires-clause-can

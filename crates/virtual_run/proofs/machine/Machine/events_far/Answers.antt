@@ -2,6 +2,7 @@ use Rattle.std.proofs.Common.{◌≡◌, ℕ, ◌+◌, ◌*◌, ◌^◌, ◌≤�
 use Rattle.run_engine.specs.declared.choice.Choice.{Choice}
 use Rattle.virtual_run.specs.Credited.{raise_ticks, moment_of, credited_by}
 use Rattle.virtual_run.specs.DelayedRun.{IsPaced}
+use Rattle.run_engine.proofs.Law.{on_machine}
 use Rattle.virtual_run.proofs.CreditedRun.{goes_seen, is_steady, raised_few}
 use Rattle.virtual_run.proofs.Far.{far_few, far_can, far_paced, far_next, far_more, far_none, far_within}
 use Rattle.virtual_run.proofs.machine.Machine.events_far.Goals as goal
@@ -11,13 +12,18 @@ advance_far-event-requires-clause-steady c =
     let m = c.self.inside in
     is_steady m.image.now m.input.now m.setting m.engine m.credits m.moment c.self.invariant (goes_seen m.image.now m.input.now m.setting m.engine m.credits m.moment c.self.invariant c.args.self.now c.self.view_is c.requires)
 
-pub advance_far-event-requires-clause-choice : goal.advance_far-event-requires-clause-choice
-advance_far-event-requires-clause-choice c = c.self.invariant.valid
+pub advance_far-event-requires-clause-setting : goal.advance_far-event-requires-clause-setting
+advance_far-event-requires-clause-setting c = c.self.invariant.valid
+
+pub advance_far-event-requires-clause-machine : goal.advance_far-event-requires-clause-machine
+advance_far-event-requires-clause-machine c =
+    let m = c.self.inside in
+    on_machine m.image.now m.input.now m.setting c.self.invariant.valid m.engine c.self.invariant.reached
 
 pub advance_far-event-requires-clause-delay : goal.advance_far-event-requires-clause-delay
 advance_far-event-requires-clause-delay c =
     let m = c.self.inside in
-    let few : m.credits.raised ≤ 10 ^ 16 = raised_few m.image.now m.input.now m.setting m.engine m.credits m.moment c.self.invariant in
+    let few : m.credits.raised ≤ 41 * 10 ^ 15 = raised_few m.image.now m.input.now m.setting m.engine m.credits m.moment c.self.invariant in
     omega (arith, c.raised-raised.ensures)
 
 pub account_event-self-inside-requires-clause-few : goal.account_event-self-inside-requires-clause-few
@@ -27,8 +33,8 @@ account_event-self-inside-requires-clause-few c =
     let event = c.advance_far-event.result in
     let delay : ℕ = c.raised-raised.result in
     let none : m.engine.ending ≡ None = goes_seen m.image.now m.input.now m.setting m.engine m.credits m.moment c.self.invariant c.args.self.now c.self.view_is c.requires in
-    let few : m.credits.raised ≤ 10 ^ 16 = raised_few m.image.now m.input.now m.setting m.engine m.credits m.moment c.self.invariant in
-    let time : moment_of event new ≤ 2 * 10 ^ 16 = far_few m.image.now m.input.now m.setting m.engine m.credits m.moment c.self.invariant new event delay c.raised-raised.ensures none c.advance_far-event.ensures in
+    let few : m.credits.raised ≤ 41 * 10 ^ 15 = raised_few m.image.now m.input.now m.setting m.engine m.credits m.moment c.self.invariant in
+    let time : moment_of event new ≤ 51 * 10 ^ 15 = far_few m.image.now m.input.now m.setting m.engine m.credits m.moment c.self.invariant new event delay c.raised-raised.ensures none c.advance_far-event.ensures in
     omega (arith, c.raised-raised.ensures)
 
 pub account_event-self-inside-requires-clause-can : goal.account_event-self-inside-requires-clause-can

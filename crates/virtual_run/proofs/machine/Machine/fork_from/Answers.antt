@@ -4,7 +4,7 @@ use Rattle.machines.specs.Lead.{before}
 use Rattle.virtual_run.specs.Credited.{raise_ticks, with_raises, AllRun, AllMade}
 use Rattle.run_engine.specs.declared.choice.Setting.{Setting}
 use Rattle.run_engine.specs.declared.engine.Engine.{Engine}
-use Rattle.run_engine.specs.Engine.{events_of}
+use Rattle.run_engine.specs.Engine.{events_of, most_ticks}
 use Rattle.virtual_run.specs.DelayedRun.{IsPaced}
 use Rattle.virtual_run.specs.Lead.{with_sooner}
 use Rattle.run_engine.specs.Run.{experiment_in}
@@ -30,8 +30,9 @@ raise_selected-requires-clause-few c =
     let m = c.lead.inside in
     let none : (before (experiment_in m.image.now m.input.now m.setting) (events_of m.engine)).state.starts ≡ 0 =
     none_counted m.image.now m.input.now m.setting m.engine m.credits m.moment c.lead.invariant c.args.lead.now c.lead.view_is c.requires.none in
-    subst (λ (credits : Delays). credits.raised + 3800 * length c.copy_from-2.new.self.selected ≤ 10 ^ 17) (sym c.copy_from-3.ensures)
-    (selected_few m.image.now m.input.now m.setting m.engine m.credits m.moment c.lead.invariant c.copy_from-2.new.self.selected (ap (λ (r : Engine). r.selected) c.copy_from-2.ensures) none)
+    subst (λ (credits : Delays). credits.raised + most_ticks c.copy_from-2.new.self.guest.beside.timing * length c.copy_from-2.new.self.selected ≤ 10 ^ 17) (sym c.copy_from-3.ensures)
+    (subst (λ (r : Engine). m.credits.raised + most_ticks r.guest.beside.timing * length r.selected ≤ 10 ^ 17) (sym c.copy_from-2.ensures)
+    (selected_few m.image.now m.input.now m.setting m.engine m.credits m.moment c.lead.invariant m.engine.selected refl none))
 
 pub hasten_selected-requires-clause-made : goal.hasten_selected-requires-clause-made
 hasten_selected-requires-clause-made c =

@@ -1,6 +1,6 @@
 use Rattle.std.proofs.Common.{ℕ, ◌≤◌, Some, ap, subst, sym, ◌∙◌}
 use Rattle.machines.specs.Delayed.{Delayed}
-use Rattle.guest_calls.specs.Guest.{Guest}
+use Rattle.timed_guest.specs.Guest.{Timed}
 use Rattle.run_engine.specs.Seen.{Seen}
 use Rattle.virtual_run.specs.DelayedRun.{outcome_of}
 use Rattle.virtual_run.proofs.CreditedRun.{outcome_some, outcome_none, outcome_small, none_seen, delay_in_time}
@@ -9,14 +9,14 @@ use Rattle.virtual_run.proofs.machine.Machine.outcome.Goals as goal
 pub returns-in_err-ending-clause-outcome : goal.returns-in_err-ending-clause-outcome
 returns-in_err-ending-clause-outcome c =
     let m = c.self.inside in
-    c.from_residual.ensures ∙ outcome_none m.image.now m.input.now m.setting m.engine m.credits m.moment c.self.invariant c.in_err-ending.was ∙ ap (λ (v : Seen (Delayed Guest)). outcome_of v.state) c.self.view_is
+    c.from_residual.ensures ∙ outcome_none m.image.now m.input.now m.setting m.engine m.credits m.moment c.self.invariant c.in_err-ending.was ∙ ap (λ (v : Seen (Delayed Timed)). outcome_of v.state) c.self.view_is
 
 pub returns-clause-outcome : goal.returns-clause-outcome
 returns-clause-outcome c =
     let m = c.self.inside in
     ap (λ delay. Some (record { ending = c.in_ok-ending.ending; time = m.moment; delay = delay; retired = m.engine.retired; starts = m.engine.starts })) c.raised.ensures
     ∙ outcome_some m.image.now m.input.now m.setting m.engine m.credits m.moment c.self.invariant c.in_ok-ending.ending c.in_ok-ending.was
-    ∙ ap (λ (v : Seen (Delayed Guest)). outcome_of v.state) c.self.view_is
+    ∙ ap (λ (v : Seen (Delayed Timed)). outcome_of v.state) c.self.view_is
 
 pub returns-in_err-ending-clause-in_time : goal.returns-in_err-ending-clause-in_time
 returns-in_err-ending-clause-in_time c =

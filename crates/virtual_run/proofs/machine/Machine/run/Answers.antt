@@ -1,6 +1,6 @@
 use Rattle.std.proofs.Common.{◌≡◌, Some, None, ap, sym, ◌∙◌}
 use Rattle.machines.specs.Delayed.{Delayed}
-use Rattle.guest_calls.specs.Guest.{Guest}
+use Rattle.timed_guest.specs.Guest.{Timed}
 use Rattle.run_engine.specs.Seen.{Seen}
 use Rattle.run_engine.proofs.Law.{none_is}
 use Rattle.virtual_run.proofs.CreditedRun.{ending_now, going_first, going_far, far_smaller, record_now, last_now, agrees_last, delayed_now, law_now, moves_now, once_now, shortened_now}
@@ -10,7 +10,7 @@ pub loop-ending-init : goal.loop-ending-init
 loop-ending-init c =
     let m = c.self.inside in (
       going_first m.image.now m.input.now m.setting m.engine m.credits m.moment c.self.invariant c.args.self.now c.self.view_is,
-      sym (ending_now m.image.now m.input.now m.setting m.engine m.credits m.moment c.self.invariant) ∙ ap (λ (v : Seen (Delayed Guest)). v.state.ending) c.self.view_is,
+      sym (ending_now m.image.now m.input.now m.setting m.engine m.credits m.moment c.self.invariant) ∙ ap (λ (v : Seen (Delayed Timed)). v.state.ending) c.self.view_is,
     )
 
 pub loop-ending-preserved : goal.loop-ending-preserved
