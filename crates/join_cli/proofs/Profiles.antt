@@ -18,6 +18,7 @@ use Rattle.line_index.specs.Listed.{in_order, with_element}
 use Rattle.profile_book.specs.Profile.{is_rising, IsProfile}
 use Rattle.profile_shards.specs.Shards.{AreBlocks, AreLines, blocks_at, profile_at}
 use Rattle.profile_shards.proofs.Whole.{and_true, blocks_rise}
+use Rattle.profile_pool.proofs.Choices.{valid_choice}
 use Rattle.profile_pool.proofs.Within.{summary_is}
 use Rattle.run_engine.specs.Choices.{choice_of}
 use Rattle.run_engine.specs.Run.{IsChoice}
@@ -53,31 +54,6 @@ module _ {count : ℕ} {label : ℕ → Text} {block : ℕ → ℕ → Summary} 
   names_rise (l ∷ []) up below = refl
   names_rise (l ∷ m ∷ lines) up below =
       and_true (label_before (label l) (label m)) (is_rising label_before (map label (m ∷ lines))) (are.rise l m (less l m up.0.0) below.1.0) (names_rise (m ∷ lines) up.1 below.1)
-
--- ---- the usual choice
-
-usual_fits : IsLayout usual
-usual_fits = record {
-  whole_brk = refl;
-  whole_map = refl;
-  whole_stack = refl;
-  brk = omega arith;
-  map = omega arith;
-  stack = omega arith;
-  some_stack = omega arith;
-}
-
-valid_choice : (line speedup budget : ℕ) → 1 ≤ budget → budget ≤ 10 ^ 12 → speedup ≤ 95 → IsChoice (choice_of (Some line) speedup budget)
-valid_choice line speedup budget some few slow = record {
-  speedup = slow;
-  some_budget = some;
-  few = few;
-  some_output = omega arith;
-  output = omega arith;
-  some_visits = omega arith;
-  visits = omega arith;
-  layout = usual_fits;
-}
 
 -- ---- the profile
 

@@ -131,7 +131,7 @@ module _ (image : ImageParts) (position point : ℕ → Option ℕ) (input : Lis
         let b : InBounds image position point input choice valid s = in_bounds image position point input choice valid n in
         let sound : IsSound s = sound_at n in
         let moment : d.now ≡ s.time + d.delay = a.time (subst IsSome (sym e.1) refl) in
-        let delayed : d.delay ≤ 3800 * d.starts = standing_bounded run IsOrderly rules 3800 (cut_few run 40 95 (λ g h. few_cycles (next_of g h)) valid.speedup) n in
+        let delayed : d.delay ≤ 3800 * d.starts = standing_bounded run IsOrderly rules 3800 (λ m h. cut_few run 40 95 (λ g h. few_cycles (next_of g h)) valid.speedup (standing run m).guest h) n in
         let wakes : s.wakes + run.guest.sleepers s.guest ≤ s.retired = followed run IsOrderly rules n in
         let ending : unwrap_or d.ending Spent ≡ e.0 = ap (λ (o : Option Ending). unwrap_or o Spent) e.1 in
         let budget : choice.budget ≤ 10 ^ 12 = valid.few in

@@ -7,9 +7,8 @@ use Rattle.coz_files.specs.Held.{Held}
 use Rattle.coz_serve.specs.Serves.{Judges}
 use Rattle.coz_serve.specs.Written.{refused_by, shown_by}
 use Rattle.file_read.specs.declared.fault.FileFault.TheVariants.{Usage, Read, Write, Long, Memory}
-use Rattle.profile_book.specs.declared.profile.Profile.{Profile as Book}
 use Rattle.join_parts.specs.declared.fault.Fault.{Fault}
-use Rattle.join_parts.specs.declared.fault.Fault.TheVariants.{File, Profile, Parts}
+use Rattle.join_parts.specs.declared.fault.Fault.TheVariants.{File, Profile, Parts, Timing}
 use Rattle.join_parts.specs.declared.joined.Joined.{Joined}
 use Rattle.join_parts.specs.Words.{paths_in}
 use Rattle.join_parts.specs.Answer.{fault_line, fault_status, shared_fault, FailedToRead, IsMemory, IsReadAt, IsSettled, Suits}
@@ -18,7 +17,7 @@ use Rattle.join_parts.proofs.Served.{low_status}
 
 -- ---- which faults words may have
 
-pub ok_apart : (paths : Option (List Text)) (told : Option Held) (p : Book) → Suits paths told (Ok p) → paths ≡ None → ⊥
+pub ok_apart : (paths : Option (List Text)) (told : Option Held) (p : Joined) → Suits paths told (Ok p) → paths ≡ None → ⊥
 ok_apart None told p suits is = suits
 ok_apart (Some ps) told p suits is = let no : ⊥ = cc in no
 
@@ -31,6 +30,7 @@ usage_none (Some ps) told (File (Long q)) suits is = let no : ⊥ = cc in absurd
 usage_none (Some ps) told (File Memory) suits is = let no : ⊥ = cc in absurd no
 usage_none (Some ps) told (Profile fault q) suits is = let no : ⊥ = cc in absurd no
 usage_none (Some ps) told (Parts kind q) suits is = let no : ⊥ = cc in absurd no
+usage_none (Some ps) told (Timing q) suits is = let no : ⊥ = cc in absurd no
 
 pub none_usage : (paths : Option (List Text)) (told : Option Held) (fault : Fault) → Suits paths told (Err fault) → paths ≡ None → shared_fault fault ≡ Some Usage
 none_usage (Some ps) told fault suits none = let no : ⊥ = cc in absurd no
@@ -41,6 +41,7 @@ none_usage None told (File (Long q)) suits none = absurd suits
 none_usage None told (File Memory) suits none = absurd suits
 none_usage None told (Profile fault q) suits none = absurd suits
 none_usage None told (Parts kind q) suits none = absurd suits
+none_usage None told (Timing q) suits none = absurd suits
 
 named_of : (paths : Option (List Text)) (told : Option Held) (fault : Fault) → Suits paths told (Err fault) → (path : _) → shared_fault fault ≡ Some (Read path)
     → (ps : List Text) × (paths ≡ Some ps) × IsReadAt ps told path.now
@@ -52,6 +53,7 @@ named_of paths told (File (Long q)) suits path is = let no : ⊥ = cc in absurd 
 named_of paths told (File Memory) suits path is = let no : ⊥ = cc in absurd no
 named_of paths told (Profile fault q) suits path is = let no : ⊥ = cc in absurd no
 named_of paths told (Parts kind q) suits path is = let no : ⊥ = cc in absurd no
+named_of paths told (Timing q) suits path is = let no : ⊥ = cc in absurd no
 
 never_write : (paths : Option (List Text)) (told : Option Held) (fault : Fault) → Suits paths told (Err fault) → shared_fault fault ≢ Some Write
 never_write None told (File Write) suits is = suits
@@ -62,6 +64,7 @@ never_write paths told (File (Long q)) suits is = let no : ⊥ = cc in no
 never_write paths told (File Memory) suits is = let no : ⊥ = cc in no
 never_write paths told (Profile fault q) suits is = let no : ⊥ = cc in no
 never_write paths told (Parts kind q) suits is = let no : ⊥ = cc in no
+never_write paths told (Timing q) suits is = let no : ⊥ = cc in no
 
 -- ---- answers
 
@@ -69,14 +72,14 @@ module _ (words : List Text) (told : Option Held) (before now : ℕ) where
   abbrev IsJudged : Result Joined Fault → Type 0
   IsJudged answer = Judges (join_program words told) (shown_by joined_status joined_text) (refused_by fault_status fault_line) shared_fault told before now answer
 
-  abbrev IsSettledIn : Result Book Fault → Type 0
+  abbrev IsSettledIn : Result Joined Fault → Type 0
   IsSettledIn answer = IfSome told (λ held. (IsMemory answer → ⊥) → IsSettled words held before now answer)
 
-  pub joined_judged : (joined : Joined) → Suits (paths_in words) told (Ok joined.profile) → IsSettledIn (Ok joined.profile)
-      → ((FailedToRead {A = Book} (Ok joined.profile) → ⊥) → now ≡ before) → IsJudged (Ok joined)
+  pub joined_judged : (joined : Joined) → Suits (paths_in words) told (Ok joined) → IsSettledIn (Ok joined)
+      → ((FailedToRead {A = Joined} (Ok joined) → ⊥) → now ≡ before) → IsJudged (Ok joined)
   joined_judged joined suits settled steady = record {
     usage = λ no. absurd no;
-    no_request = λ none. ok_apart (paths_in words) told joined.profile suits none;
+    no_request = λ none. ok_apart (paths_in words) told joined suits none;
     named = tt;
     no_write = tt;
     low = low_status joined.profile;
@@ -86,7 +89,7 @@ module _ (words : List Text) (told : Option Held) (before now : ℕ) where
   }
 
   pub fault_judged : (fault : Fault) → Suits (paths_in words) told (Err fault) → IsSettledIn (Err fault)
-      → (FailedToRead {A = Book} (Err fault) → IfNone told (Rose before now)) → ((FailedToRead {A = Book} (Err fault) → ⊥) → now ≡ before) → IsJudged (Err fault)
+      → (FailedToRead {A = Joined} (Err fault) → IfNone told (Rose before now)) → ((FailedToRead {A = Joined} (Err fault) → ⊥) → now ≡ before) → IsJudged (Err fault)
   fault_judged fault suits settled cause steady = record {
     usage = usage_none (paths_in words) told fault suits;
     no_request = λ none. inl (none_usage (paths_in words) told fault suits none);

@@ -2,3 +2,4 @@ pub mod Judged
 pub mod Reading
 pub mod Sharded
 pub mod Served
+pub mod Machines

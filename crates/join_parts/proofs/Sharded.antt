@@ -1,5 +1,6 @@
 -- The verdict of the profiles of lists of a program's lines.
-use Rattle.std.proofs.Common.{◌≡◌, ℕ, ◌<◌, ◌≤◌, Bool, true, false, cond, nat_cmp, inl, inr, List, [], ◌∷◌, ◌++◌, codes, string_bytes, map, length, get_or, All, Option, None, Some, Result, Ok, Err, refl, sym, ap, ap₂, subst, ◌∙◌, arith}
+use Rattle.std.proofs.Common.{◌≡◌, ℕ, ◌+◌, ◌<◌, option_and_then, if◌then◌else◌, ◌≤◌, Bool, true, false, cond, nat_cmp, inl, inr, List, [], ◌∷◌, ◌++◌, codes, string_bytes, map, length, get_or, All, Option, None, Some, Result, Ok, Err, refl, sym, ap, ap₂, subst, ◌∙◌, arith}
+use Rattle.std.specs.Prelude.{unwrap_or}
 use Rattle.std.specs.List.{AllByRecursion, list_all}
 use Rattle.std.specs.Str.{bytes_eq}
 use Rattle.std.specs.declared.string.String.{String}
@@ -23,19 +24,38 @@ use Rattle.profile_join.specs.declared.fault.JoinError.TheVariants.{Unlike}
 use Rattle.profile_shards.specs.Shards.{AreBlocks, AreLines, AreTogether, AreDisjoint, IsTwice, holders, profile_at}
 use Rattle.profile_shards.proofs.Law.{shards_join}
 use Rattle.join_parts.specs.Words.{paths_in, are_paths, as_paths, dashes, is_plain}
-use Rattle.join_parts.specs.Verdict.{book_in, book_of, part_in, part_before, parts_in, parts_line, profile_verdict, IsPathsVerdict, IsPartsVerdict, IsJoinVerdict}
+use Rattle.timing_model.specs.declared.timing.Timing.{Timing}
+use Rattle.timing_model.specs.Timing.{usual}
+use Rattle.timing_reader.specs.Reading.{timed_text, has_line, timing_after, unusual}
+use Rattle.join_parts.specs.declared.part.Part.{Part}
+use Rattle.join_parts.specs.Machines.{unlike_from, unlike_part, machine_of}
+use Rattle.join_parts.specs.Verdict.{book_in, book_of, timed_in, part_in, part_before, parts_in, parts_line, profile_verdict, profiles_of, IsPathsVerdict, IsPartsVerdict, IsTimedVerdict, IsLikeVerdict, IsJoinVerdict}
 use Rattle.join_parts.specs.Shards.{IsShardsVerdict, ShardsVerdict, twice_line}
 
 -- ---- reading
 
+-- a profile of the usual machine
+abbrev plain_part : Profile → Part
+plain_part p = record { timing = usual; profile = p }
+
+-- the text of a profile has no line of a machine
+no_line : (p : Profile) → has_line (profile_text p) ≡ false
+unfolding profile_text
+no_line p = refl
+
+timed_is : (text : Text) → has_line text ≡ false → timed_text text ≡ (usual, text)
+timed_is text none =
+    ap (λ (b : Bool). unwrap_or (if b then option_and_then unusual (timing_after text) else Some (usual, text)) (usual, text)) none
+
 -- the text of a profile is read as it
-part_of_text : (path : Text) (p : Profile) → IsProfile p → length (profile_text p) ≤ 268435456 → part_in path (Some (profile_text p)) ≡ Ok p
+part_of_text : (path : Text) (p : Profile) → IsProfile p → length (profile_text p) ≤ 268435456 → part_in path (Some (profile_text p)) ≡ Ok (plain_part p)
 part_of_text path p right short =
     let text : Text = profile_text p in
     let long : Result Text Verdict = Err (refusal 8 (codes "long: " ++ path)) in
     ap (λ (b : Bool). book_of path (cond b long (Ok text))) (le-ltb 268435456 (length text) short)
-    ∙ ap (λ (fault : Option BookFault). book_in path fault (parsed_profile text)) (no_fault_of_text text p (right, refl))
-    ∙ ap (λ (q : Profile). book_in path None q) (told_is text p (right, refl))
+    ∙ ap (timed_in path) (timed_is text (no_line p))
+    ∙ ap (λ (fault : Option BookFault). book_in path usual fault (parsed_profile text)) (no_fault_of_text text p (right, refl))
+    ∙ ap (λ (q : Profile). book_in path usual None q) (told_is text p (right, refl))
 
 cons_head : {A : Type 0} (x y : A) (xs ys : List A) → x ∷ xs ≡ y ∷ ys → x ≡ y
 cons_head x y xs ys e = cc
@@ -46,7 +66,7 @@ cons_tail x y xs ys e = cc
 module _ (held : Held) where
   -- the texts of profiles are read as they
   parts_of_texts : (paths : List Text) (profiles : List Profile) → map (file_at held) paths ≡ map (λ (p : Profile). Some (profile_text p)) profiles
-      → AllByRecursion IsProfile profiles → AllByRecursion (λ (p : Profile). length (profile_text p) ≤ 268435456) profiles → parts_in paths held ≡ Ok profiles
+      → AllByRecursion IsProfile profiles → AllByRecursion (λ (p : Profile). length (profile_text p) ≤ 268435456) profiles → parts_in paths held ≡ Ok (map plain_part profiles)
   parts_of_texts [] [] files right short = refl
   parts_of_texts [] (p ∷ profiles) files right short = let no : ⊥ = cc in absurd no
   parts_of_texts (path ∷ paths) [] files right short = let no : ⊥ = cc in absurd no
@@ -54,6 +74,29 @@ module _ (held : Held) where
       let at : file_at held path ≡ Some (profile_text p) = cons_head _ _ _ _ files in
       let rest = parts_of_texts paths profiles (cons_tail _ _ _ _ files) right.1 short.1 in
       ap₂ part_before (ap (part_in path) at ∙ part_of_text path p right.0 short.0) rest
+
+-- profiles of the usual machine are of one machine
+none_unlike : (place : ℕ) (profiles : List Profile) → unlike_from usual place (map plain_part profiles) ≡ None
+none_unlike place [] = refl
+none_unlike place (p ∷ profiles) = none_unlike (place + 1) profiles
+
+usual_machine : (profiles : List Profile) → machine_of (map plain_part profiles) ≡ usual
+usual_machine [] = refl
+usual_machine (p ∷ profiles) = refl
+
+plain_profiles : (profiles : List Profile) → profiles_of (map plain_part profiles) ≡ profiles
+plain_profiles [] = refl
+plain_profiles (p ∷ profiles) = ap (λ (ps : List Profile). p ∷ ps) (plain_profiles profiles)
+
+-- the verdict of profiles of the usual machine is that of their join
+plain_verdict : (paths : List Text) (profiles : List Profile) (v : Verdict) → IsTimedVerdict paths (map plain_part profiles) v → IsJoinVerdict usual paths profiles v
+plain_verdict paths profiles v is =
+    let parts : List Part = map plain_part profiles in
+    let none : unlike_part parts ≡ None = ap (λ (t : Timing). unlike_from t 0 parts) (usual_machine profiles) ∙ none_unlike 0 profiles in
+    let joined : IsJoinVerdict (machine_of parts) paths (profiles_of parts) v =
+    subst (λ (o : Option ℕ). IsLikeVerdict o paths parts v) none is in
+    subst (λ (ps : List Profile). IsJoinVerdict usual paths ps v) (plain_profiles profiles)
+    (subst (λ (t : Timing). IsJoinVerdict t paths (profiles_of parts) v) (usual_machine profiles) joined)
 
 -- ---- lists of lines
 
@@ -124,7 +167,7 @@ module _ {count : ℕ} {label : ℕ → Text} {block : ℕ → ℕ → Summary} 
   abbrev all_lines : Profile
   all_lines = profile_at budget points block speedups whole
 
-  join_is : (v : Verdict) → IsJoinVerdict paths profiles v → IsShardsVerdict lists all_lines label paths v
+  join_is : (v : Verdict) → IsJoinVerdict usual paths profiles v → IsShardsVerdict lists all_lines label paths v
   join_is v (inl joined) =
       let is = shards_join count label block are budget points speedups lists whole none rising some lines together (Ok joined.0) joined.1 in
       record {
@@ -146,9 +189,9 @@ module _ {count : ℕ} {label : ℕ → Text} {block : ℕ → ℕ → Summary} 
 pub shards_verdict : ShardsVerdict
 shards_verdict count label block are budget points speedups lists whole none rising lines together words held hold v is =
     let profiles : List Profile = map (profile_at budget points block speedups) lists in
-    let read : parts_in hold.paths held ≡ Ok profiles = parts_of_texts held hold.paths profiles hold.files (recursion_from_All IsProfile profiles hold.right) (recursion_from_All (λ (p : Profile). length (profile_text p) ≤ 268435456) profiles hold.short) in
+    let read : parts_in hold.paths held ≡ Ok (map plain_part profiles) = parts_of_texts held hold.paths profiles hold.files (recursion_from_All IsProfile profiles hold.right) (recursion_from_All (λ (p : Profile). length (profile_text p) ≤ 268435456) profiles hold.short) in
     let there : 0 < length profiles = some_lists (file_at held) (λ (p : Profile). Some (profile_text p)) hold.paths profiles (named_some words hold.paths hold.named) hold.files in
     let many : length profiles ≡ length lists = length-map lists (profile_at budget points block speedups) in
     let some : 0 < length lists = omega (arith, there, many) in
     join_is are budget points speedups lists whole none rising lines together some hold.paths v
-    (subst (λ (r : Result (List Profile) Verdict). IsPartsVerdict hold.paths r v) read (subst (λ (ps : Option (List Text)). IsPathsVerdict ps held v) hold.named is))
+    (plain_verdict hold.paths profiles v (subst (λ (r : Result (List Part) Verdict). IsPartsVerdict hold.paths r v) read (subst (λ (ps : Option (List Text)). IsPathsVerdict ps held v) hold.named is)))

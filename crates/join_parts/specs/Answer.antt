@@ -7,21 +7,23 @@ use Rattle.file_read.specs.declared.fault.FileFault.{FileFault}
 use Rattle.file_read.specs.declared.fault.FileFault.TheVariants.{Usage, Read, Write}
 use Rattle.file_read.specs.Faults.{file_status, file_line}
 use Rattle.file_read.specs.Reading as reading
-use Rattle.profile_book.specs.declared.profile.Profile.{Profile as Book}
 use Rattle.join_parts.specs.declared.fault.Fault.{Fault}
-use Rattle.join_parts.specs.declared.fault.Fault.TheVariants.{File, Profile, Parts}
-use Rattle.join_parts.specs.Verdict.{Verdict, refusal, profile_line, parts_line, parts_in, profile_verdict, IsVerdict}
+use Rattle.join_parts.specs.declared.joined.Joined.{Joined}
+use Rattle.join_parts.specs.declared.fault.Fault.TheVariants.{File, Profile, Parts, Timing}
+use Rattle.join_parts.specs.Verdict.{Verdict, refusal, profile_line, parts_line, parts_in, timed_verdict, timing_fault_line, IsVerdict}
 
 abbrev pub fault_status : Fault → ℕ
 fault_status (File fault) = file_status fault
 fault_status (Profile fault path) = 12
 fault_status (Parts kind path) = 14
+fault_status (Timing path) = 14
 
 -- the text of a fault, after the program's name
 abbrev pub fault_line : Fault → Text
 fault_line (File fault) = file_line fault
 fault_line (Profile fault path) = profile_line path.now fault
 fault_line (Parts kind path) = parts_line kind path.now
+fault_line (Timing path) = timing_fault_line path.now
 
 -- the fault, if it is one that each program may have
 abbrev pub shared_fault : Fault → Option FileFault
@@ -37,8 +39,8 @@ judged view (Ok value) = Ok (view value)
 judged view (Err fault) = Err (fault_verdict fault)
 
 -- the verdict of an answer
-abbrev pub verdict_of : Result Book Fault → Verdict
-verdict_of (Ok joined) = profile_verdict joined
+abbrev pub verdict_of : Result Joined Fault → Verdict
+verdict_of (Ok joined) = timed_verdict joined.timing joined.profile
 verdict_of (Err fault) = fault_verdict fault
 
 abbrev pub IsReadFault : Fault → Type 0
@@ -78,13 +80,13 @@ IsOfPaths paths told (File Write) = ⊥
 IsOfPaths paths told _ = Unit {0}
 
 -- which answers the words that name these paths, or none, may have
-abbrev pub Suits : Option (List Text) → Option Held → Result Book Fault → Type 0
+abbrev pub Suits : Option (List Text) → Option Held → Result Joined Fault → Type 0
 Suits None told (Err (File Usage)) = Unit {0}
 Suits None told _ = ⊥
 Suits (Some paths) told (Ok joined) = Unit {0}
 Suits (Some paths) told (Err fault) = IsOfPaths paths told fault
 
 -- an answer is one of the verdict of the words, or that of a read that failed with a counted fault
-abbrev pub IsSettled : List Text → Held → ℕ → ℕ → Result Book Fault → Type 0
+abbrev pub IsSettled : List Text → Held → ℕ → ℕ → Result Joined Fault → Type 0
 IsSettled words held before now answer =
     IsVerdict words held (verdict_of answer) ⊎ (FailedToRead answer × Rose before now)

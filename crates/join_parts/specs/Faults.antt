@@ -1,10 +1,9 @@
 -- The faults of the program are faults as each program has them.
-use Rattle.std.specs.Prelude.{Some}
 use Rattle.std.proofs.Common.{refl, arith}
 use Rattle.file_read.specs.declared.fault.FileFault.TheVariants.{Usage, Read, Write, Long, Memory}
 use Rattle.coz_serve.specs.Faults.{IsFault}
 use Rattle.join_parts.specs.declared.fault.Fault.{Fault}
-use Rattle.join_parts.specs.declared.fault.Fault.TheVariants.{File, Profile, Parts}
+use Rattle.join_parts.specs.declared.fault.Fault.TheVariants.{File, Profile, Parts, Timing}
 use Rattle.join_parts.specs.Answer.{fault_line, fault_status, shared_fault}
 
 pub join_is_fault : (fault : Fault) → IsFault 14 (shared_fault fault) (fault_status fault) (fault_line fault)
@@ -15,3 +14,4 @@ join_is_fault (File (Long path)) = (omega arith, (refl, refl))
 join_is_fault (File Memory) = (omega arith, (refl, refl))
 join_is_fault (Profile fault path) = (omega arith, record { no_text = omega arith; no_usage = λ is. omega (arith, is); no_read = λ is. omega (arith, is); no_write = λ is. omega (arith, is); no_memory = λ is. omega (arith, is) })
 join_is_fault (Parts kind path) = (omega arith, record { no_text = omega arith; no_usage = λ is. omega (arith, is); no_read = λ is. omega (arith, is); no_write = λ is. omega (arith, is); no_memory = λ is. omega (arith, is) })
+join_is_fault (Timing path) = (omega arith, record { no_text = omega arith; no_usage = λ is. omega (arith, is); no_read = λ is. omega (arith, is); no_write = λ is. omega (arith, is); no_memory = λ is. omega (arith, is) })

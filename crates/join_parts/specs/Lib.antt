@@ -1,4 +1,5 @@
 pub mod Words
+pub mod Machines
 pub mod Verdict
 pub mod Answer
 pub mod Faults

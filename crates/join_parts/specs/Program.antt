@@ -1,8 +1,9 @@
 -- The program that joins profiles, with the words that it is given.
-use Rattle.std.specs.Prelude.{◌≡◌, ℕ, List, ◌++◌, codes, Option, Some, None, if◌then◌else◌}
+use Rattle.std.specs.Prelude.{◌≡◌, ℕ, List, ◌++◌, codes, Option, Some, None}
 use Rattle.coz_types.specs.Labels.{Text}
 use Rattle.coz_files.specs.Held.{Held}
 use Rattle.coz_serve.specs.Serves.{Program}
+use Rattle.timing_line.specs.Line.{timing_text}
 use Rattle.join_parts.specs.declared.joined.Joined.{Joined}
 use Rattle.join_parts.specs.Words.{paths_in}
 use Rattle.join_parts.specs.Verdict.{IsVerdict, profile_status, profile_text}
@@ -28,7 +29,7 @@ abbrev pub joined_status : Joined → ℕ
 joined_status joined = profile_status joined.profile
 
 abbrev pub joined_text : Joined → Text
-joined_text joined = profile_text joined.profile
+joined_text joined = timing_text joined.timing ++ profile_text joined.profile
 
 -- the help of the program
 abbrev pub help_text : Text

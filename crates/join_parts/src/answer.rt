@@ -32,7 +32,7 @@ pub fn answer_of<'w, F: Files>(
     ensures same { F.held files.new ≡ F.held files.old }
 {
     match judge(alloc, words, files) {
-        Ok(profile) => Ok(Joined { profile }),
+        Ok(joined) => Ok(joined),
         Err(fault) => Err(fault),
     }
 }

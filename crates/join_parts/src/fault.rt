@@ -17,6 +17,8 @@ pub enum Fault<'a> {
     Profile(BookFault, &'a str),
     /// The profile in the file of this path doesn't belong to the same profile as those before it.
     Parts(PartKind, &'a str),
+    /// The profile in the file of this path is of another machine than the first one.
+    Timing(&'a str),
 }
 
 impl<'a> From<FileFault<'a>> for Fault<'a> {

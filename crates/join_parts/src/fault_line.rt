@@ -17,6 +17,7 @@ fn status_of(fault: &Fault) -> u8
         Fault::File(fault) => file_read::status_of(*fault),
         Fault::Profile(..) => 12,
         Fault::Parts(..) => 14,
+        Fault::Timing(..) => 14,
     }
 }
 
@@ -61,6 +62,7 @@ fn put_line<S: Sink>(sink: &mut S, so_far: PutAnswer, fault: &Fault) -> PutAnswe
         Fault::File(fault) => put_fault(sink, so_far, *fault),
         Fault::Profile(fault, path) => put_profile(sink, so_far, *fault, path),
         Fault::Parts(kind, path) => put_parts(sink, so_far, kind, path),
+        Fault::Timing(path) => put_two(sink, so_far, b"parts: Timing in ", path.as_bytes()),
     }
 }
 

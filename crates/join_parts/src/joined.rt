@@ -7,11 +7,15 @@ ghost use Rattle.join_parts.specs.Verdict.{has_exited, profile_status};
 use coz_files::{PutAnswer, Sink};
 use coz_serve::Printed;
 use coz_types::{Ending, Summary};
-use profile_book::{Profile, write_profile};
+use profile_book::Profile;
+use timing_line::write_timed;
+use timing_model::Timing;
 
 /// A joined profile, and what is printed of it.
 #[derive(Drop)]
 pub struct Joined {
+    /// The machine of the parts.
+    pub timing: Timing,
     /// The profile.
     pub profile: Profile,
 }
@@ -53,6 +57,6 @@ impl Printed for Joined {
     }
 
     fn put<O: Sink>(&self, out: &mut O) -> PutAnswer {
-        write_profile(&self.profile, out)
+        write_timed(&self.timing, &self.profile, out)
     }
 }

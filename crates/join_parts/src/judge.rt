@@ -6,11 +6,11 @@ ghost use Rattle.join_parts.specs.Verdict.{bytes_of};
 ghost use Rattle.join_parts.specs.Answer.{IsMemory, FailedToRead, IsSettled, Suits};
 
 use crate::fault::Fault;
+use crate::joined::Joined;
 use crate::parts::{joined, read_parts};
 use crate::words::paths_in;
 use coz_files::Files;
 use file_read::FileFault;
-use profile_book::Profile;
 use std::alloc::Global;
 
 /// Returns the profile that the files of the named paths hold parts of.
@@ -19,7 +19,7 @@ pub fn judge<'w, F: Files>(
     alloc: Global,
     words: &'w [String],
     files: &mut F,
-) -> Result<Profile, Fault<'w>>
+) -> Result<Joined, Fault<'w>>
     ensures same { F.held files.new ≡ F.held files.old }
     ensures fault_of_request { Suits (paths_in (bytes_of words.now)) (F.held files.old) result }
     ensures verdict { IfSome (F.held files.old) (λ held. (IsMemory result → ⊥) →

@@ -8,6 +8,8 @@ mod fault_line;
 mod help;
 mod joined;
 mod judge;
+mod likeness;
+mod part;
 mod parts;
 mod shards;
 mod words;

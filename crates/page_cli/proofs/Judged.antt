@@ -7,10 +7,9 @@ use Rattle.coz_files.specs.Held.{Held, file_at}
 use Rattle.coz_files.specs.Verdict.{Verdict, refusal, step_verdict, text_verdict}
 use Rattle.file_read.specs.Reading.{read_verdict}
 use Rattle.profile_reader.specs.declared.TheConstants.{MAX_PROFILE}
-use Rattle.profile_reader.specs.Parsed.{parsed_profile}
 use Rattle.page_words.specs.Words.{Request, asked_of}
 use Rattle.page_cli.specs.Page.{page_curves}
-use Rattle.page_cli.specs.Verdict.{book_at}
+use Rattle.page_cli.specs.Verdict.{book_at, book_of}
 use Rattle.page_cli.specs.Answer.{Answer, Suits}
 
 file_is : (most : ℕ) (path bytes : Text) (file : Option Text) → text_verdict bytes ≡ read_verdict most path file text_verdict → file ≡ Some bytes
@@ -23,12 +22,12 @@ file_is most path bytes (Some b) e = by (nat_lt most (length b)) e
 
 pub curves_are : (known : Option Held) (asked : Request) (before now : ℕ) (bytes : Text) (result : Answer)
     → IfSome known (λ h. (⊥ → ⊥) → (next : Text → Verdict) → (next bytes ≡ read_verdict MAX_PROFILE asked.profile (file_at h asked.profile) next) ⊎ (⊥ × Rose before now))
-    → Suits (Some asked) result → IfOk result (λ r. r.curves ≡ page_curves asked.file (parsed_profile bytes))
+    → Suits (Some asked) result → IfOk result (λ r. r.curves ≡ page_curves asked.file (book_of bytes))
     → IfSome known (λ h. IfOk result (λ r. r.curves ≡ page_curves (asked_of r.asked).file (book_at h r.asked.profile.now)))
 curves_are None asked before now bytes result read suits ranked = tt
 curves_are (Some h) asked before now bytes (Err fault) read suits ranked = tt
 curves_are (Some h) asked before now bytes (Ok r) read suits ranked =
     let at : file_at h asked.profile ≡ Some bytes = elim (read (λ no. no) text_verdict) [ inl is ↦ file_is MAX_PROFILE asked.profile bytes (file_at h asked.profile) is | inr failed ↦ absurd failed.0 ] in
     ranked
-    ∙ sym (ap (λ (f : Option Text). page_curves asked.file (parsed_profile (unwrap_or f []))) at)
+    ∙ sym (ap (λ (f : Option Text). page_curves asked.file (book_of (unwrap_or f []))) at)
     ∙ sym (ap (λ (q : Request). page_curves q.file (book_at h q.profile)) suits)

@@ -6,3 +6,4 @@ pub mod Pages
 pub mod Ranking
 pub mod Reading
 pub mod Served
+mod Settled

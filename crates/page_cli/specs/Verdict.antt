@@ -13,6 +13,7 @@ use Rattle.profile_book.specs.declared.profile.Profile.{Profile as Book}
 use Rattle.profile_reader.specs.declared.fault.BookFault.{BookFault}
 use Rattle.profile_reader.specs.ItemNames.{book_line}
 use Rattle.causal_curves.specs.declared.curve.Curve.{Curve}
+use Rattle.timing_reader.specs.Reading.{timed_text}
 use Rattle.page_words.specs.Words.{Request, request_in}
 use Rattle.page_values.specs.Sources.{Answers, IsAnswer, source_in}
 use Rattle.page_cli.specs.Page.{page_curves, page_text}
@@ -38,12 +39,16 @@ book_verdict asked answers (Some fault) p = refusal 12 (book_line fault)
 abbrev pub profile_verdict : Request → Answers → Text → Verdict
 profile_verdict asked answers bytes = book_verdict asked answers (book_fault bytes) (parsed_profile bytes)
 
+-- of a file, in which the line of a machine may come first
+abbrev pub file_verdict : Request → Answers → Text → Verdict
+file_verdict asked answers bytes = profile_verdict asked answers (timed_text bytes).1
+
 -- of the file of the path, which has at most 268,435,456 bytes
 abbrev pub request_verdict : Option Request → Held → Answers → Verdict
 request_verdict None held answers = refusal 2 (codes "usage")
 request_verdict (Some asked) held answers =
     read_verdict MAX_PROFILE asked.profile (file_at held asked.profile)
-    (profile_verdict asked answers)
+    (file_verdict asked answers)
 
 -- the verdict, if this is what the source files are; its status and line do not depend on them
 abbrev pub verdict : List Text → Held → Answers → Verdict
@@ -64,9 +69,13 @@ AreNamed None held before now curves answers = Unit {0}
 AreNamed (Some folder) held before now curves answers =
     AreSources held folder before now curves answers
 
+-- the profile that the bytes are the text of, after the line of a machine if they have one
+abbrev pub book_of : Text → Book
+book_of bytes = parsed_profile (timed_text bytes).1
+
 -- the profile that the file of a path is the text of
 abbrev pub book_at : Held → Text → Book
-book_at held path = parsed_profile (unwrap_or (file_at held path) [])
+book_at held path = book_of (unwrap_or (file_at held path) [])
 
 abbrev pub AreRead : Option Request → Held → ℕ → ℕ → Answers → Type 0
 AreRead None held before now answers = Unit {0}

@@ -6,7 +6,7 @@ ghost use Rattle.profile_reader.specs.Parsed.{parsed_profile};
 ghost use Rattle.page_words.specs.Words.{asked_of, request_in};
 ghost use Rattle.page_values.specs.Sources.{Answers};
 ghost use Rattle.page_cli.specs.Page.{chosen_curves, page_curves};
-ghost use Rattle.page_cli.specs.Verdict.{bytes_of, book_at, verdict, profile_verdict};
+ghost use Rattle.page_cli.specs.Verdict.{bytes_of, book_at, book_of, file_verdict, verdict, profile_verdict};
 ghost use Rattle.page_cli.specs.Answer.{verdict_of, IsMemory, FailedToRead, Suits, Settles};
 
 use crate::fault::Fault;
@@ -21,6 +21,7 @@ use page_words::{Asked, read_page};
 use profile_book::Profile;
 use profile_reader::{MAX_PROFILE, read_profile};
 use std::alloc::Global;
+use timing_reader::timed_text;
 
 /// A request, with the profile that it names and the curves of the chosen lines by their means.
 #[derive(Drop)]
@@ -74,6 +75,19 @@ fn rank<'w>(alloc: Global, asked: Asked<'w>, bytes: &[u8]) -> Answer<'w>
     })
 }
 
+/// The curves of the profile of which the bytes are the text, after the line of its machine if
+/// they have one.
+fn rank_timed<'w>(alloc: Global, asked: Asked<'w>, bytes: &[u8]) -> Answer<'w>
+    ensures no_read { FailedToRead result → ⊥ }
+    ensures verdict { (IsMemory result → ⊥) → (answers : Answers) → verdict_of answers result
+        ≡ file_verdict (asked_of asked.entry) answers bytes.now }
+    ensures fault_of_request { Suits (Some (asked_of asked.entry)) result }
+    ensures ranked { IfOk result (λ ranked.
+        ranked.curves ≡ page_curves (asked_of asked.entry).file (book_of bytes.now)) }
+{
+    rank(alloc, asked, timed_text(bytes).1)
+}
+
 /// The profile that the words name, with its curves.
 /// Err is the first fault of the arguments, the file or its text, or out of memory.
 pub fn judge<'w, F: Files>(alloc: Global, words: &'w [String], files: &mut F) -> Answer<'w>
@@ -93,5 +107,5 @@ pub fn judge<'w, F: Files>(alloc: Global, words: &'w [String], files: &mut F) ->
         return Err(Fault::File(FileFault::Usage));
     };
     let file = read_file(alloc, files, asked.profile, MAX_PROFILE)?;
-    rank(alloc, asked, &file)
+    rank_timed(alloc, asked, &file)
 }

@@ -6,6 +6,8 @@ mod coz_words_tests;
 #[cfg(test)]
 mod experiment_plan_tests;
 #[cfg(test)]
+mod gain_words_tests;
+#[cfg(test)]
 mod image_write_tests;
 #[cfg(test)]
 mod rv_asm_tests;

@@ -1,5 +1,5 @@
 -- The line that names a machine of the timing model.
-use Rattle.std.specs.Prelude.{ℕ, ◌==◌, ◌&&◌, Bool, not, if◌then◌else◌, List, [], ◌∷◌, ◌++◌, codes, decimal}
+use Rattle.std.specs.Prelude.{ℕ, ◌==◌, ◌&&◌, Bool, not, if◌then◌else◌, [], ◌++◌, codes, decimal}
 use Rattle.coz_types.specs.Labels.{Text}
 use Rattle.profile_book.specs.Profile.{field, number_field}
 use Rattle.timing_model.specs.declared.costs.Costs.{Costs}

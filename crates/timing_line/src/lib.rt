@@ -12,9 +12,12 @@ ghost use Rattle.std.specs.Prelude.{◌≡◌};
 ghost use Rattle.coz_files.specs.Gathered.{Gathers};
 ghost use Rattle.timing_line.specs.Line.{are_usual, charge_name, costs_text, is_usual, timing_line, timing_text};
 
+mod write;
+
 use coz_files::{PutBuffer, Sink};
 use profile_book::{put_field, put_named};
 use timing_model::{Charge, Costs, Timing};
+pub use write::write_timed;
 
 /// The word of a charge.
 fn charge_name(charge: Charge) -> &'static [u8]

@@ -4,7 +4,7 @@ use Rattle.join_parts.proofs.Judged.{fault_judged, joined_judged, none_usage, ok
 use Rattle.join_parts.proofs.answer.answer_of.Goals as goal
 
 pub returns-in-Ok-clause-usage : goal.returns-in-Ok-clause-usage
-returns-in-Ok-clause-usage g c = λ none. ok_apart (paths_in (bytes_of c.args.words.now)) (g.F.Files.held c.args.files.now) c.in-Ok.profile c.in-Ok.ensures.fault_of_request none
+returns-in-Ok-clause-usage g c = λ none. ok_apart (paths_in (bytes_of c.args.words.now)) (g.F.Files.held c.args.files.now) _ c.in-Ok.ensures.fault_of_request none
 
 pub returns-in-Ok-clause-judges : goal.returns-in-Ok-clause-judges
 returns-in-Ok-clause-judges g c =

@@ -1,7 +1,7 @@
 use Rattle.std.proofs.Common.{rules, ◌<◌, length, string_bytes, arith, ◌∙◌}
 use Rattle.std.proofs.lemmas.List.{length-map}
 use Rattle.std.specs.Global.{Vec}
-use Rattle.profile_book.specs.declared.profile.Profile.{Profile}
+use Rattle.join_parts.specs.declared.part.Part.{Part}
 use Rattle.join_parts.specs.Verdict.{bytes_of}
 use Rattle.join_parts.proofs.Reading.{text_at, of_paths, stop_settles, more_read, more_right, more_many}
 use Rattle.join_parts.proofs.parts.read_parts.Goals as goal
@@ -18,7 +18,7 @@ returns-in-Err-clause-verdict g c =
     let lt : c.loop-i.i < length c.args.paths.now = search rules in
     let within : c.loop-i.i < length (bytes_of c.args.paths.now) = omega (arith, lt, length-map c.args.paths.now string_bytes) in
     let at = text_at c.args.paths.now c.loop-i.i c.index-paths-i.result lt (search rules) in
-    stop_settles (bytes_of c.args.paths.now) c.loop-i.i c.as_str.result.now c.loop-i.parts.items within (at ∙ search rules) (λ (parts : Vec Profile). parts.items) (g.F.Files.held c.args.files.now) (g.F.Files.held c.loop-i.files) (g.F.Files.faults c.args.files.now) (g.F.Files.faults c.loop-i.files)
+    stop_settles (bytes_of c.args.paths.now) c.loop-i.i c.as_str.result.now c.loop-i.parts.items within (at ∙ search rules) (λ (parts : Vec Part). parts.items) (g.F.Files.held c.args.files.now) (g.F.Files.held c.loop-i.files) (g.F.Files.faults c.args.files.now) (g.F.Files.faults c.loop-i.files)
     (g.F.Files.faults c.read_part.new.files) c.in-Err.fault c.loop-i.invariant.same c.loop-i.invariant.no_fault c.loop-i.invariant.so_far c.in-Err.ensures.verdict
 
 pub loop-i-preserved : goal.loop-i-preserved
