@@ -1,0 +1,6 @@
+mod Budgets
+mod After
+mod Judging
+mod Headline
+mod Served
+mod Usual

@@ -1,0 +1,4 @@
+pub mod Verdict
+pub mod Answer
+pub mod Program
+pub mod Headline

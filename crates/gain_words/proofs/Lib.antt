@@ -1,0 +1,7 @@
+mod Cuts
+mod Held
+mod Ranges
+mod Said
+mod Profiles
+mod Law
+mod Examples

@@ -1,0 +1,4 @@
+pub mod Slots
+pub mod Costs
+pub mod Words
+pub mod Grammar
