@@ -9,6 +9,7 @@ use counted_run::Counted;
 use coz_types::{LineId, Tick};
 use std::alloc::{AllocError, Global};
 use std::process::Abort;
+use timing_model::Timing;
 use virtual_run::Choice;
 
 /// How many instructions of a line are begun, and their work in ticks.
@@ -150,7 +151,8 @@ impl Check for Row {
             points,
         } = *program;
         let choice = choice_of(self.budget);
-        let mut counted = Counted::new(alloc, image, index, points, b"", choice).ok()?;
+        let timing = Timing::usual();
+        let mut counted = Counted::new(alloc, image, index, points, timing, b"", choice).ok()?;
         counted.run();
         let checked = check_lines(rt, alloc, program, choice, &counted, self.lines);
         let all = (counted.cost_of_all(), counted.cost_of_none());

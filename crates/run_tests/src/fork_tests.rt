@@ -2,6 +2,7 @@
 ghost use Rattle.std.specs.Prelude.{◌≡◌, ◌≤◌, [], None, IsSome, IfSome};
 ghost use Rattle.virtual_run.specs.Lead.{arguments};
 ghost use Rattle.run_engine.specs.Run.{IsChoice};
+ghost use Rattle.timing_model.specs.Timing.{usual};
 
 use crate::checks::check_equal;
 use crate::guests::{Check, Program, SLEEP, SMALL, WAIT, check_source};
@@ -153,6 +154,7 @@ fn check_lead<'a, R: Abort>(
       image = program.now.image.now;
       index = program.now.index.now;
       points = program.now.points.now;
+      timing = usual;
       input = [];
       choice = record choice { selected = None; speedup = 0 };
       state = tt;

@@ -3,6 +3,7 @@ ghost use Rattle.std.specs.Prelude.{◌≡◌, ◌≤◌, [], ◌∷◌, None, I
 ghost use Rattle.machines.specs.Delayed.{unbegun};
 ghost use Rattle.virtual_run.specs.Lead.{arguments};
 ghost use Rattle.run_engine.specs.Run.{IsChoice};
+ghost use Rattle.timing_model.specs.Timing.{usual};
 ghost use Rattle.run_engine.specs.Seen.{experiment_of};
 
 use crate::checks::check_equal;
@@ -106,6 +107,7 @@ pub(crate) fn run_of<'a>(
       image = program.now.image.now;
       index = program.now.index.now;
       points = program.now.points.now;
+      timing = usual;
       input = [];
       choice = record choice { selected = None; speedup = 0 };
       state = tt;
@@ -220,6 +222,7 @@ fn check_line<'a, R: Abort>(
       image = program.now.image.now;
       index = program.now.index.now;
       points = program.now.points.now;
+      timing = usual;
       input = [];
       choice = record choice { selected = None; speedup = 0 };
       state = tt;
@@ -253,6 +256,7 @@ fn check_lead<'a, R: Abort>(
       image = program.now.image.now;
       index = program.now.index.now;
       points = program.now.points.now;
+      timing = usual;
       input = [];
       choice = record choice { selected = None; speedup = 0 };
       state = tt;

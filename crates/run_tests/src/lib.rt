@@ -27,3 +27,5 @@ mod path_tests;
 mod shortened_run_tests;
 #[cfg(test)]
 mod timed_guest_tests;
+#[cfg(test)]
+mod timing_tests;
