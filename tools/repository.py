@@ -13,6 +13,7 @@ PROGRAMS = {
     "coz-join": "coz_join",
     "coz-hot": "coz_hot",
     "coz-functions": "coz_functions",
+    "coz-gain": "coz_gain",
 }
 
 
