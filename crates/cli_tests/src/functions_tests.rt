@@ -79,7 +79,7 @@ fn check_lines_in<R: Threads + Sync + AllocGlobal + Abort>(
     sinks: &mut Sinks,
 ) -> Result<(), Fail> {
     let mut files = Listed::new(files, &[]);
-    let status = status_of(rt.alloc(), Program::Functions, row.0, &mut files, sinks)?;
+    let status = status_of(rt, Program::Functions, row.0, &mut files, sinks)?;
     let lines = lines_of(rt, sinks.out.held())?;
     check_answer(
         rt,
@@ -313,13 +313,7 @@ fn the_printed_file_ends_with_its_line_unit(rt: HostRuntime) -> Result<(), Fail>
     let programs = programs(rt.alloc())?;
     let mut files = Listed::new(&programs, &[]);
     let mut sinks = two_sinks(rt.alloc(), (WIDE, WIDE))?;
-    let status = status_of(
-        rt.alloc(),
-        Program::Functions,
-        &["small"],
-        &mut files,
-        &mut sinks,
-    )?;
+    let status = status_of(&rt, Program::Functions, &["small"], &mut files, &mut sinks)?;
     assert_eq!(rt; (status, sinks.out.held().len()), (0, 854));
     Ok(())
 }

@@ -14,6 +14,27 @@ Writes a program with a line table in which each function is one line.
   -V, --version     print the version
 ";
 
+const GAIN: &[u8] = b"usage: coz-gain PROG [OPTION]...
+
+Prints the profile of a program on a machine of other costs, cores or jitter.
+
+  PROG               a static RV64IMA Linux program
+  --input FILE       the standard input of the program
+  --lines LIST       the lines to select, with commas between them
+  --speedups LIST    the speedups in percent, with commas between them
+  --progress LIST    the progress points, with commas between them
+  --budget N         the greatest number of instructions to retire in a run
+  --workers W        the number of threads
+  --cores C          the number of cores, 1 to 256
+  --slice Q          the cycles of a slice, 1 to 1000000000
+  --costs LIST       the cycles of classes, such as load=9,ecall=1000
+  --charge WHOM      instructions without a line count for nobody (none), or
+                     for the last line before them (last)
+  --seed S           the seed of the jitter, 0 for none
+  -h, --help         print this help
+  -V, --version      print the version
+";
+
 const HOT: &[u8] = b"usage: coz-hot PROG [OPTION]...
 
 Runs a program once, and prints its lines by falling cost.
@@ -65,6 +86,19 @@ static FUNCTIONS_ROWS: [Row; 9] = [
     (&["--help="], 2, b"", b"coz-functions: usage\n"),
 ];
 
+/// The words of `coz-gain`.
+static GAIN_ROWS: [Row; 9] = [
+    (&["--help"], 0, GAIN, b""),
+    (&["-h"], 0, GAIN, b""),
+    (&["--help", "--version", "--"], 0, GAIN, b""),
+    (&["--version"], 0, b"coz-gain 0.4.0\n", b""),
+    (&["-V"], 0, b"coz-gain 0.4.0\n", b""),
+    (&["-V", "absent"], 0, b"coz-gain 0.4.0\n", b""),
+    (&["-v"], 2, b"", b"coz: usage\n"),
+    (&["--hel"], 2, b"", b"coz: usage\n"),
+    (&["--help="], 2, b"", b"coz: usage\n"),
+];
+
 /// The words of `coz-hot`.
 static HOT_ROWS: [Row; 9] = [
     (&["--help"], 0, HOT, b""),
@@ -107,6 +141,7 @@ static PAGE_ROWS: [Row; 9] = [
 #[test]
 fn the_first_argument_asks_for_help_or_version(rt: HostRuntime) -> Result<(), Fail> {
     check_rows(&rt, Program::Functions, &[], &FUNCTIONS_ROWS)?;
+    check_rows(&rt, Program::Gain, &[], &GAIN_ROWS)?;
     check_rows(&rt, Program::Hot, &[], &HOT_ROWS)?;
     check_rows(&rt, Program::Join, &[], &JOIN_ROWS)?;
     check_rows(&rt, Program::Page, &[], &PAGE_ROWS)

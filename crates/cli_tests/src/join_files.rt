@@ -6,6 +6,19 @@ const HEAD: &[u8] = b"coz-ticks\tversion=1\tbudget=100000000\tpoints=0\n";
 
 const FEW: &[u8] = b"coz-ticks\tversion=1\tbudget=3\tpoints=0\n";
 
+/// The head after the line of a machine, of another, and of the usual one, which has no line.
+const ON_FOUR: &[u8] =
+    b"coz-timing\tversion=1\tcores=4\tslice=100000\tcosts=1,2,3,3,8,20,1000\tcharge=last\tseed=7\n\
+coz-ticks\tversion=1\tbudget=100000000\tpoints=0\n";
+
+const ON_TWO: &[u8] =
+    b"coz-timing\tversion=1\tcores=2\tslice=100000\tcosts=1,2,3,3,8,20,1000\tcharge=last\tseed=7\n\
+coz-ticks\tversion=1\tbudget=100000000\tpoints=0\n";
+
+const ON_USUAL: &[u8] =
+    b"coz-timing\tversion=1\tcores=256\tslice=100000\tcosts=1,2,3,3,8,20,40\tcharge=none\tseed=0\n\
+coz-ticks\tversion=1\tbudget=100000000\tpoints=0\n";
+
 const POINT: &[u8] =
     b"coz-ticks\tversion=1\tbudget=100000000\tpoints=1\npoint\tindex=0\tname=one.s:3\n";
 
@@ -66,7 +79,7 @@ struct Book {
     visits: &'static [u8],
 }
 
-static BOOKS: [Book; 16] = [
+static BOOKS: [Book; 22] = [
     Book {
         path: "a",
         head: HEAD,
@@ -161,6 +174,42 @@ static BOOKS: [Book; 16] = [
         path: "pq",
         head: HEAD,
         blocks: &[A_9, A_10, A_S_1, B_1],
+        visits: NO_VISITS,
+    },
+    Book {
+        path: "t-a",
+        head: ON_FOUR,
+        blocks: &[ONE_0, ONE_50],
+        visits: NO_VISITS,
+    },
+    Book {
+        path: "t-b",
+        head: ON_FOUR,
+        blocks: &[TWO_0, TWO_50, THREE_0, THREE_50],
+        visits: NO_VISITS,
+    },
+    Book {
+        path: "t-all",
+        head: ON_FOUR,
+        blocks: &[ONE_0, ONE_50, TWO_0, TWO_50, THREE_0, THREE_50],
+        visits: NO_VISITS,
+    },
+    Book {
+        path: "t-two",
+        head: ON_TWO,
+        blocks: &[TWO_0, TWO_50],
+        visits: NO_VISITS,
+    },
+    Book {
+        path: "t-usual",
+        head: ON_USUAL,
+        blocks: &[TWO_0, TWO_50],
+        visits: NO_VISITS,
+    },
+    Book {
+        path: "t-e",
+        head: ON_FOUR,
+        blocks: &[TWO_0, TWO_25],
         visits: NO_VISITS,
     },
 ];

@@ -12,7 +12,7 @@ use std::test::Fail;
 type Row = (&'static [&'static str], u8, &'static str, &'static [u8]);
 
 /// By hand, as all tables of this module: docs/FORMATS.md, Join.
-static ROWS: [Row; 32] = [
+static ROWS: [Row; 40] = [
     (&["a", "b"], 0, "all", b""),
     (&["b", "a"], 0, "all", b""),
     (&["--", "a", "b"], 0, "all", b""),
@@ -69,6 +69,34 @@ static ROWS: [Row; 32] = [
         14,
         "",
         b"coz-join: parts: Twice one.s:2 in b\n",
+    ),
+    (&["t-b", "t-a"], 0, "t-all", b""),
+    (&["t-a"], 0, "t-a", b""),
+    (&["t-a", "b"], 14, "", b"coz-join: parts: Timing in b\n"),
+    (&["a", "t-b"], 14, "", b"coz-join: parts: Timing in t-b\n"),
+    (
+        &["t-a", "t-e", "t-two"],
+        14,
+        "",
+        b"coz-join: parts: Timing in t-two\n",
+    ),
+    (
+        &["t-a", "t-e"],
+        14,
+        "",
+        b"coz-join: parts: Speedups in t-e\n",
+    ),
+    (
+        &["t-a", "t-a"],
+        14,
+        "",
+        b"coz-join: parts: Twice one.s:1 in t-a\n",
+    ),
+    (
+        &["a", "t-usual"],
+        12,
+        "",
+        b"coz-join: profile: Head at 0 in t-usual\n",
     ),
 ];
 

@@ -9,6 +9,8 @@ mod files;
 #[cfg(test)]
 mod functions_tests;
 #[cfg(test)]
+mod gain_tests;
+#[cfg(test)]
 mod hot_files;
 #[cfg(test)]
 mod hot_tests;

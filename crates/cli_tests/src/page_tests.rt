@@ -8,6 +8,7 @@ use coz_files::Files;
 use std::alloc::{AllocError, Global};
 use std::process::Abort;
 use std::test::Fail;
+use std::thread::Threads;
 
 /// Sinks with this room.
 const PAGE: Room = Room {
@@ -41,21 +42,21 @@ fn contains(text: &[u8], piece: &[u8]) -> bool {
     false
 }
 
-fn check_piece_in<R: AllocGlobal + Abort, F: Files>(
+fn check_piece_in<R: Threads + Sync + AllocGlobal + Abort, F: Files>(
     rt: &R,
     words: &[&str],
     files: &mut F,
     sinks: &mut Sinks,
     piece: (&[u8], bool),
 ) -> Result<(), Fail> {
-    let status = status_of(rt.alloc(), Program::Page, words, files, sinks)?;
+    let status = status_of(rt, Program::Page, words, files, sinks)?;
     let is_there = contains(sinks.out.held(), piece.0);
     assert_eq!(rt; (status, is_there, sinks.err.held().len()), (0, piece.1, 0));
     Ok(())
 }
 
 /// Calls `coz-page`, and checks that its output contains a piece of text, or does not.
-fn check_piece<R: AllocGlobal + Abort, F: Files>(
+fn check_piece<R: Threads + Sync + AllocGlobal + Abort, F: Files>(
     rt: &R,
     words: &[&str],
     files: &mut F,
@@ -70,6 +71,15 @@ fn check_piece<R: AllocGlobal + Abort, F: Files>(
 
 /// A profile without lines.
 const NONE: &[u8] = b"coz-ticks\tversion=1\tbudget=100000000\tpoints=0\n";
+
+/// The same after the line of a machine, and after that of the usual one, which has no line.
+const TIMED: &[u8] =
+    b"coz-timing\tversion=1\tcores=4\tslice=100000\tcosts=1,2,3,3,8,20,1000\tcharge=last\tseed=7\n\
+coz-ticks\tversion=1\tbudget=100000000\tpoints=0\n";
+
+const USUAL: &[u8] =
+    b"coz-timing\tversion=1\tcores=256\tslice=100000\tcosts=1,2,3,3,8,20,40\tcharge=none\tseed=0\n\
+coz-ticks\tversion=1\tbudget=100000000\tpoints=0\n";
 
 /// Two runs of each of two lines.
 const PROFILE: &[u8] = b"coz-ticks\tversion=1\tbudget=1000\tpoints=1\n\
@@ -111,7 +121,9 @@ output\tlength=0\tsha256=e3b0c44298fc1c149afbf4c8996fb92427ae41e4649b934ca495991
 throughput-point\tindex=0\tdelta=2\n\
 visits\tsha256=e3b0c44298fc1c149afbf4c8996fb92427ae41e4649b934ca495991b7852b855\n";
 
-static FILES: [(&str, &[u8]); 7] = [
+static FILES: [(&str, &[u8]); 9] = [
+    ("timed", TIMED),
+    ("usual", USUAL),
     ("p", PROFILE),
     ("costs", COSTS),
     ("none", NONE),
@@ -127,7 +139,8 @@ static FILES: [(&str, &[u8]); 7] = [
 
 const USAGE: &[u8] = b"coz-page: usage\n";
 
-static WRONG: [Row; 20] = [
+static WRONG: [Row; 21] = [
+    (&["usual"], 12, b"", b"coz-page: profile: Head at 0\n"),
     (&[], 2, b"", USAGE),
     (&[""], 2, b"", USAGE),
     (&["p", "p"], 2, b"", USAGE),
@@ -158,7 +171,10 @@ fn invalid_arguments_are_rejected(rt: HostRuntime) -> Result<(), Fail> {
 /// Words, the reads that fail, a piece of text, and whether the page has it.
 type Piece = (&'static [&'static str], &'static [u64], &'static [u8], bool);
 
-fn check_pieces<R: AllocGlobal + Abort>(rt: &R, pieces: &[Piece]) -> Result<(), Fail> {
+fn check_pieces<R: Threads + Sync + AllocGlobal + Abort>(
+    rt: &R,
+    pieces: &[Piece],
+) -> Result<(), Fail> {
     let files = files_of(rt.alloc(), &FILES)?;
     for (words, fails, piece, is_there) in pieces {
         check_piece(
@@ -174,7 +190,8 @@ fn check_pieces<R: AllocGlobal + Abort>(rt: &R, pieces: &[Piece]) -> Result<(), 
 const BEGIN: &[u8] = b"<!DOCTYPE html>\n";
 
 /// Words of which each is read in a way of its own. A second read of the profile would fail.
-static RIGHT: [Piece; 6] = [
+static RIGHT: [Piece; 7] = [
+    (&["timed"], &[1], BEGIN, true),
     (&["none"], &[1], BEGIN, true),
     (&["p"], &[1], BEGIN, true),
     (&["p", "--top", "1"], &[1], BEGIN, true),

@@ -3,34 +3,39 @@ use crate::calls::texts;
 use crate::files::Listed;
 use crate::large::Large;
 use crate::sinks::{ONE_FAILS, Room, Sinks, WIDE, first_texts, two_sinks};
-use coz_files::{Files, HeldFile};
+use coz_files::{Files, FreeGate, HeldFile};
 use functions_cli::serve_functions;
+use gain_cli::serve_gain;
 use hot_cli::serve_hot;
 use join_cli::serve_join;
-use std::alloc::{AllocError, Global};
+use std::alloc::AllocError;
 use std::process::Abort;
 use std::test::Fail;
+use std::thread::Threads;
 
 /// A program that reads files, and prints to two sinks.
 #[derive(Clone, Copy)]
 pub(crate) enum Program {
     Functions,
+    Gain,
     Hot,
     Join,
     Page,
 }
 
-fn serve<F: Files>(
-    alloc: Global,
+fn serve<R: Threads + Sync + AllocGlobal, F: Files>(
+    rt: &R,
     program: Program,
     words: &[String],
     files: &mut F,
     sinks: &mut Sinks,
 ) -> u8 {
+    let alloc = rt.alloc();
     let out = &mut sinks.out;
     let err = &mut sinks.err;
     match program {
         Program::Functions => serve_functions(alloc, words, files, out, err),
+        Program::Gain => serve_gain(rt, alloc, words, files, out, err, &FreeGate),
         Program::Hot => serve_hot(alloc, words, files, out, err),
         Program::Join => serve_join(alloc, words, files, out, err),
         Program::Page => page_cli::serve(alloc, words, files, out, err),
@@ -38,15 +43,15 @@ fn serve<F: Files>(
 }
 
 /// Calls a program, and returns its status.
-pub(crate) fn status_of<F: Files>(
-    alloc: Global,
+pub(crate) fn status_of<R: Threads + Sync + AllocGlobal, F: Files>(
+    rt: &R,
     program: Program,
     words: &[&str],
     files: &mut F,
     sinks: &mut Sinks,
 ) -> Result<u8, AllocError> {
-    let words = texts(alloc, words)?;
-    let status = serve(alloc, program, &words, files, sinks);
+    let words = texts(rt.alloc(), words)?;
+    let status = serve(rt, program, &words, files, sinks);
     Ok(status)
 }
 
@@ -62,7 +67,7 @@ pub(crate) fn check_answer<R: AllocGlobal + Abort>(
     Ok(())
 }
 
-fn check_call_in<R: AllocGlobal + Abort, F: Files>(
+fn check_call_in<R: Threads + Sync + AllocGlobal + Abort, F: Files>(
     rt: &R,
     program: Program,
     words: &[&str],
@@ -70,13 +75,13 @@ fn check_call_in<R: AllocGlobal + Abort, F: Files>(
     sinks: &mut Sinks,
     expected: Answer,
 ) -> Result<(), Fail> {
-    let status = status_of(rt.alloc(), program, words, files, sinks)?;
+    let status = status_of(rt, program, words, files, sinks)?;
     check_answer(rt, (status, sinks.out.held(), sinks.err.held()), expected)
 }
 
 /// Calls a program, and compares its exit status, its output and its error line with the expected
 /// ones.
-pub(crate) fn check_call<R: AllocGlobal + Abort, F: Files>(
+pub(crate) fn check_call<R: Threads + Sync + AllocGlobal + Abort, F: Files>(
     rt: &R,
     program: Program,
     words: &[&str],
@@ -95,7 +100,7 @@ pub(crate) fn check_call<R: AllocGlobal + Abort, F: Files>(
 pub(crate) type Row = (&'static [&'static str], u8, &'static [u8], &'static [u8]);
 
 /// Calls a program with the arguments of each row.
-pub(crate) fn check_rows<R: AllocGlobal + Abort>(
+pub(crate) fn check_rows<R: Threads + Sync + AllocGlobal + Abort>(
     rt: &R,
     program: Program,
     files: &[HeldFile],
@@ -121,7 +126,7 @@ pub(crate) type Fault = (
 );
 
 /// Calls a program whose reads and puts fail as each row says.
-pub(crate) fn check_faults<R: AllocGlobal + Abort>(
+pub(crate) fn check_faults<R: Threads + Sync + AllocGlobal + Abort>(
     rt: &R,
     program: Program,
     files: &[HeldFile],
@@ -137,7 +142,7 @@ pub(crate) fn check_faults<R: AllocGlobal + Abort>(
 
 /// Calls a program whose error line consists of these texts, once for each put, and lets that put
 /// fail.
-pub(crate) fn check_failing_puts<R: AllocGlobal + Abort>(
+pub(crate) fn check_failing_puts<R: Threads + Sync + AllocGlobal + Abort>(
     rt: &R,
     program: Program,
     files: &[HeldFile],
@@ -165,7 +170,7 @@ pub(crate) type Limit = (
 );
 
 /// Calls a program whose file `big` consists of zeros, and every other file of these bytes.
-pub(crate) fn check_limits<R: AllocGlobal + Abort>(
+pub(crate) fn check_limits<R: Threads + Sync + AllocGlobal + Abort>(
     rt: &R,
     program: Program,
     bytes: &[u8],
