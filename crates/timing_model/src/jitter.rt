@@ -44,5 +44,7 @@ pub fn is_doubled(seed: u64, hart: u32, count: u64) -> bool
         return false;
     }
     let key = splitmix(seed, u64::from(hart));
-    splitmix(key, count) % 100 < chance(key, count / BLOCK)
+    let drawn = splitmix(key, count) % 100;
+    // Most draws are above each chance, so that of the block is not asked for.
+    drawn < CHANCES && drawn < chance(key, count / BLOCK)
 }
