@@ -38,6 +38,7 @@ pub(crate) fn note_of(notes: &Places<Option<Note>>, hart: HartId) -> Note
 }
 
 /// The last line of a hart that had this one, once it retires an instruction of a line or of none.
+#[inline]
 fn last_line(line: Option<LineId>, last: Option<LineId>) -> Option<LineId>
     ensures { number_of result ≡ last_line (number_of line) (number_of last) }
 {
@@ -48,6 +49,7 @@ fn last_line(line: Option<LineId>, last: Option<LineId>) -> Option<LineId>
 }
 
 /// Notes that a hart retires an instruction of this line. Returns its last line then.
+#[inline]
 pub(crate) fn pass(
     notes: &mut Places<Option<Note>>,
     hart: HartId,
@@ -83,6 +85,7 @@ fn made_note(notes: &Places<Option<Note>>, hart: HartId, last: Option<LineId>) -
 }
 
 /// Notes the harts that a retirement made: each begins with this last line.
+#[inline]
 pub(crate) fn note_made(notes: &mut Places<Option<Note>>, others: &HartList, last: Option<LineId>)
     requires low { All (λ hart. hart < HARTS) others.now }
     ensures { notes_of notes.new
@@ -96,6 +99,7 @@ pub(crate) fn note_made(notes: &mut Places<Option<Note>>, others: &HartList, las
 }
 
 /// Notes a retirement: of its hart, and of the harts that it made.
+#[inline]
 pub(crate) fn note_retirement(
     notes: &mut Places<Option<Note>>,
     hart: HartId,

@@ -28,6 +28,7 @@ impl<T> Model for Places<T> {
 }
 
 /// Appends values until there are `count`.
+#[inline(never)]
 fn extend<T: Copy>(items: &mut Vec<T>, count: usize, fresh: T)
     requires fewer { length items.old.items ≤ count }
     requires room { count ≤ vec_capacity items.old }
@@ -44,6 +45,7 @@ fn extend<T: Copy>(items: &mut Vec<T>, count: usize, fresh: T)
 
 /// Puts a value at an index, with `fresh` before it where there is none.
 #[tactic(auto, using(crate::proofs::Maps::change_within, crate::proofs::Maps::change_past))]
+#[inline(always)]
 fn put_at<T: Copy>(items: &mut Vec<T>, index: usize, value: T, fresh: T)
     requires low { index < HARTS }
     requires few { length items.old.items ≤ HARTS }
@@ -87,7 +89,7 @@ impl<T: Copy> Places<T> {
     }
 
     /// Gives a hart a value. Harts before it that had none get `fresh`.
-    #[inline]
+    #[inline(always)]
     pub fn put(&mut self, hart: HartId, value: T, fresh: T)
         requires low { hart.0 < HARTS }
         ensures { self.new ≡ change fresh hart.0 (λ _. value) self.old }

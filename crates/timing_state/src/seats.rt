@@ -41,6 +41,7 @@ pub(crate) fn copy_seats(seats: &mut Seats, other: &Seats)
 }
 
 /// Whether a core is free, and somebody stands in line.
+#[inline]
 fn can_start(seats: &Seats, cores: usize) -> bool
     ensures yes { result ≡ true → (seats.now.on < cores) × (seats.now.ready ≢ []) }
     ensures no { result ≡ false → (cores ≤ seats.now.on) ⊎ (seats.now.ready ≡ []) }
@@ -49,6 +50,7 @@ fn can_start(seats: &Seats, cores: usize) -> bool
 }
 
 /// Gives a core to the first in line, with a slice up to a moment, and appends it to a list.
+#[inline(never)]
 fn start_first(seats: &mut Seats, moment: Tick, started: &mut HartList)
     requires some { seats.old.ready ≢ [] }
     requires few { seats.old.on < HARTS }
@@ -66,6 +68,7 @@ fn start_first(seats: &mut Seats, moment: Tick, started: &mut HartList)
 
 /// Lets the first in line start while cores are free, with slices up to a moment. They are
 /// appended to `started`.
+#[inline]
 pub(crate) fn fill(seats: &mut Seats, cores: usize, moment: Tick, started: &mut HartList)
     requires few { cores ≤ HARTS }
     requires room { length started.old + length seats.old.ready ≤ HARTS }
@@ -78,6 +81,7 @@ pub(crate) fn fill(seats: &mut Seats, cores: usize, moment: Tick, started: &mut 
 }
 
 /// Puts harts at the end of the line, and empties their list.
+#[inline]
 pub(crate) fn line_up(seats: &mut Seats, others: &mut HartList)
     requires low { All (λ hart. hart < HARTS) others.old }
     requires room { length seats.old.ready + length others.old ≤ HARTS }
@@ -93,6 +97,7 @@ pub(crate) fn line_up(seats: &mut Seats, others: &mut HartList)
 
 /// Puts harts at the end of the line, and then lets the first in line start while cores are free.
 /// The list then has those that start.
+#[inline]
 pub(crate) fn shift(seats: &mut Seats, cores: usize, moment: Tick, others: &mut HartList)
     requires few { cores ≤ HARTS }
     requires low { All (λ hart. hart < HARTS) others.old }

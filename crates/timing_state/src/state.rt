@@ -64,6 +64,7 @@ fn keeps(timing: Timing) -> bool
 }
 
 /// Whether the slice of the hart that retires is over, or it gives its slice up.
+#[inline]
 fn is_over(seats: &Seats, retirement: &Retirement) -> bool
     ensures { result ≡ is_over_at (seats_of seats.now) retirement.now.hart.0
         retirement.now.moment retirement.now.gives_up }
@@ -72,6 +73,7 @@ fn is_over(seats: &Seats, retirement: &Retirement) -> bool
 }
 
 /// A retirement on a machine that needs notes and seats.
+#[inline]
 fn retire_in(
     timing: Timing,
     notes: &mut Places<Option<Note>>,
@@ -116,6 +118,7 @@ impl TimingState {
     }
 
     /// The machine.
+    #[inline]
     pub fn timing(&self) -> Timing
         ensures { result ≡ self.now.timing }
     {
@@ -124,6 +127,7 @@ impl TimingState {
 
     /// A hart retires, and the guest made or woke these others. Returns what becomes of the hart
     /// on the cores; the others are then the harts that start.
+    #[inline]
     pub fn retire(&mut self, retirement: &Retirement, others: &mut HartList) -> Fate
         requires low { retirement.now.hart.0 < HARTS }
         requires moment { retirement.now.moment < 2 ^ 63 }
@@ -165,6 +169,7 @@ impl TimingState {
     }
 
     /// Whether a hart stands in line for a core.
+    #[inline]
     pub fn is_in_line(&self, hart: HartId) -> bool
         ensures { result ≡ is_among hart.0 self.now.seats.ready }
     {

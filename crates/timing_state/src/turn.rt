@@ -25,6 +25,7 @@ pub(crate) struct Turn {
 }
 
 /// A hart leaves its core.
+#[inline]
 fn leave(seats: &mut Seats)
     ensures { seats_of seats.new
         ≡ record (seats_of seats.old) { on = (seats_of seats.old).on - 1 } }
@@ -33,6 +34,7 @@ fn leave(seats: &mut Seats)
 }
 
 /// Whether nobody waits for the core of a hart that goes on.
+#[inline]
 fn is_free(seats: &Seats, cores: usize) -> bool
     ensures { result ≡ is_free cores (seats_of seats.now) }
 {
@@ -40,6 +42,7 @@ fn is_free(seats: &Seats, cores: usize) -> bool
 }
 
 /// A hart whose slice is over goes on if nobody waits for its core, and else stands in line.
+#[inline(never)]
 fn end_slice(seats: &mut Seats, turn: Turn, first: &mut HartList) -> Fate
     requires few { turn.cores ≤ HARTS }
     requires low { turn.hart.0 < HARTS }
@@ -58,6 +61,7 @@ fn end_slice(seats: &mut Seats, turn: Turn, first: &mut HartList) -> Fate
 }
 
 /// A hart that goes on by its guest: the others stand in line, and its slice may be over.
+#[inline(always)]
 fn go_on(seats: &mut Seats, turn: Turn, others: &mut HartList) -> Fate
     requires few { turn.cores ≤ HARTS }
     requires low { turn.hart.0 < HARTS }
@@ -75,6 +79,7 @@ fn go_on(seats: &mut Seats, turn: Turn, others: &mut HartList) -> Fate
 }
 
 /// A hart that waits or leaves by its guest: its core is free.
+#[inline(never)]
 fn stop(seats: &mut Seats, turn: Turn, fate: Fate, others: &mut HartList) -> Fate
     requires few { turn.cores ≤ HARTS }
     requires others { All (λ hart. hart < HARTS) others.old }
@@ -90,6 +95,7 @@ fn stop(seats: &mut Seats, turn: Turn, fate: Fate, others: &mut HartList) -> Fat
 }
 
 /// A hart that sleeps by its guest: its core is free, and its slice ends with its sleep.
+#[inline(never)]
 fn sleep(seats: &mut Seats, turn: Turn, moment: Tick, others: &mut HartList) -> Fate
     requires few { turn.cores ≤ HARTS }
     requires low { turn.hart.0 < HARTS }
@@ -106,6 +112,7 @@ fn sleep(seats: &mut Seats, turn: Turn, moment: Tick, others: &mut HartList) -> 
 
 /// The fate of a hart on cores, by the fate that its guest gives it. `others` are the harts that
 /// the guest made or woke, and then those that start.
+#[inline]
 pub(crate) fn turn_by(seats: &mut Seats, turn: Turn, fate: Fate, others: &mut HartList) -> Fate
     requires few { turn.cores ≤ HARTS }
     requires low { turn.hart.0 < HARTS }
