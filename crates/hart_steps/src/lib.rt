@@ -8,4 +8,4 @@ mod code;
 mod steps;
 
 pub use code::{Code, Word};
-pub use steps::{Advance, step_at, step_on};
+pub use steps::{Advance, instr_at, step_at, step_on};

@@ -1,6 +1,8 @@
 //! Steps of one hart after another.
-ghost use Rattle.std.specs.Prelude.{◌≡◌, ◌+◌, ◌≤◌, ◌<◌, ◌^◌, ℕ, IfSome};
+ghost use Rattle.std.specs.Prelude.{◌≡◌, ◌+◌, ◌≤◌, ◌<◌, ◌^◌, ℕ, IfSome, option_and_then};
 ghost use Rattle.coz_types.specs.declared.TheConstants.{HARTS};
+ghost use Rattle.guest_memory.specs.Memory.{fetch};
+ghost use Rattle.rv_decode.specs.Instructions.{instruction_of};
 ghost use Rattle.rv_execute.specs.Execution.{setting, execution};
 ghost use Rattle.hart_steps.specs.Words.{IsWordAt};
 ghost use Rattle.hart_steps.specs.Code.{IsCodeOf};
@@ -8,9 +10,9 @@ ghost use Rattle.hart_steps.specs.Steps.{step, after, moment, IsQuiet, GoesOn};
 
 use crate::code::{Code, Word};
 use code_words::Marks;
-use coz_types::{HartId, Tick, TrapCause};
+use coz_types::{Address, HartId, Tick, TrapCause};
 use guest_memory::Memory;
-use rv_decode::decode;
+use rv_decode::{Instr, decode};
 use rv_execute::{HartState, Reservations, Step, execute};
 
 /// Steps of a hart, one after another.
@@ -66,6 +68,31 @@ fn step_once(
         Some(instr) => execute(state, number, memory, reservations, instr),
         None => Step::Fault(TrapCause::Illegal),
     }
+}
+
+/// Fetches and decodes the instruction at an address.
+#[inline(never)]
+fn instr_once(memory: &Memory, address: Address) -> Option<Instr>
+    ensures { result ≡ option_and_then instruction_of (fetch memory.now address) }
+{
+    match memory.fetch(address) {
+        Ok(raw) => decode(raw),
+        Err(_) => None,
+    }
+}
+
+/// The instruction at an address. None if it can't be fetched or is not supported.
+#[inline(always)]
+pub fn instr_at(memory: &Memory, code: &Code, address: Address) -> Option<Instr>
+    requires { IsCodeOf code.now memory.now }
+    ensures { result ≡ option_and_then instruction_of (fetch memory.now address) }
+{
+    if code.is_intact(memory) {
+        if let Some(word) = code.word(memory, address) {
+            return word.instr;
+        }
+    }
+    instr_once(memory, address)
 }
 
 /// Executes the instruction at a hart's pc.
