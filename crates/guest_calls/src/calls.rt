@@ -105,6 +105,7 @@ impl<'a> Guest<'a> {
 
     /// The number of the system call that a hart that was made names in a7 (Linux on riscv64),
     /// whether its next instruction is a call or not.
+    #[inline]
     pub fn number(&self, hart: HartId) -> u64
         requires { IsMade self.now hart.0 }
         ensures { result ≡ number self.now hart.0 }

@@ -28,16 +28,16 @@ use crate::hart::Hart;
 use crate::output::Output;
 use crate::transfer_buffer::TransferBuffer;
 use code_words::Marks;
-use cost_table::word_cycles;
+use cost_table::cycles;
 use coz_types::{Address, Ending, HARTS, HartId, Image, Tick, Trap, TrapCause};
 use guest_areas::Areas;
 use guest_futex::{HartList, Queue};
 use guest_memory::{Access, Layout, Memory};
 use guest_pipes::Pipes;
 pub use hart::HartStatus;
-use hart_steps::{Advance, Code, step_at, step_on};
+use hart_steps::{Advance, Code, instr_at, step_at, step_on};
 pub use machines::Fate;
-use rv_decode::{Instr, decode};
+use rv_decode::Instr;
 use rv_execute::{Reservations, Step};
 use std::alloc::{AllocError, Global};
 use std::marker::Model;
@@ -134,14 +134,12 @@ impl<'a> Guest<'a> {
 
     /// The next instruction of a hart that was made, or none if it can't be fetched
     /// or is not supported.
+    #[inline]
     pub fn next(&self, hart: HartId) -> Option<Instr>
         requires { IsMade self.now hart.0 }
         ensures { result ≡ next_of self.now hart.0 }
     {
-        match self.word(hart) {
-            Ok(word) => decode(word),
-            Err(_) => None,
-        }
+        instr_at(&self.memory, &self.code, self.pc(hart))
     }
 
     /// The cycles of the next instruction of a hart that was made; 1 if there is none.
@@ -151,10 +149,7 @@ impl<'a> Guest<'a> {
         ensures cycles { result ≡ cycles_of (next_of self.now hart.0) }
         ensures few { result ≤ MAX_CYCLES }
     {
-        match self.word(hart) {
-            Ok(word) => word_cycles(word),
-            Err(_) => 1,
-        }
+        cycles(self.next(hart))
     }
 
     /// The address of the next instruction of a hart that was made.
@@ -354,15 +349,6 @@ impl<'a> Guest<'a> {
             Step::Call => self.call(hart, net, started),
             Step::Fault(cause) => self.trap(hart, cause),
         }
-    }
-
-    /// The word at a hart's pc.
-    #[inline(always)]
-    fn word(&self, hart: HartId) -> Result<u32, Access>
-        requires { IsMade self.now hart.0 }
-        ensures { result_ok result ≡ word_at self.now hart.0 }
-    {
-        self.memory.fetch(self.pc(hart))
     }
 
     fn trap(&self, hart: HartId, cause: TrapCause) -> Fate
