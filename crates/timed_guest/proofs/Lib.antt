@@ -8,3 +8,4 @@ pub mod Growing
 pub mod Follow
 pub mod Held
 pub mod Counting
+pub mod WordLines

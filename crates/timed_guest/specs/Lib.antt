@@ -1,5 +1,6 @@
 pub mod Guest
 pub mod Retire
+pub mod Lines
 pub mod Plug
 pub mod Orderly
 pub mod Counts

@@ -12,8 +12,9 @@ ghost use Rattle.timing_laws.specs.Noted.{note_of};
 ghost use Rattle.timing_model.specs.Timing.{IsTiming, IsUsual, cycles_in};
 ghost use Rattle.timing_steps.specs.State.{number_of};
 ghost use Rattle.timed_guest.specs.Guest.{IsMade, first_guest, is_running, is_sleeping, making, pc_of, with_wake};
-ghost use Rattle.timed_guest.specs.Retire.{cycles_of_next, gives_up, is_charged_to, is_selected_by, line_charged, line_counted, line_noted, next_of, retire, retirement};
+ghost use Rattle.timed_guest.specs.Retire.{cycles_of_next, gives_up, is_selected_by, line_charged, line_counted, line_noted, next_of, retire, retirement};
 
+use crate::lines::Lines;
 use code_words::Marks;
 use coz_types::{Address, HartId, Image, LineId, Tick};
 use guest_calls::{Fate, Guest, Stretch};
@@ -55,7 +56,7 @@ fn is_usual(timing: Timing) -> bool
 pub struct TimedGuest<'a> {
     guest: Guest<'a>,
     state: TimingState,
-    index: &'a LineIndex,
+    lines: Lines<'a>,
     is_usual: bool,
 }
 
@@ -70,14 +71,14 @@ impl<'a> Model for TimedGuest<'a> {
     ghost view = { λ g. record {
       guest = g.guest;
       beside = g.state;
-      index = g.index.now;
+      index = g.lines;
     } };
 
     ghost invariant = { λ g. (IsTrue g.is_usual ↔ IsUsual g.state.timing)
         × IsOrderly (record {
           guest = g.guest;
           beside = g.state;
-          index = g.index.now;
+          index = g.lines;
         }) };
 }
 
@@ -102,12 +103,14 @@ impl<'a> TimedGuest<'a> {
             layout timing index.now) }
     {
         let state = TimingState::new(alloc, timing)?;
+        let is_usual = is_usual(timing);
+        let lines = Lines::new(alloc, image, index, !is_usual)?;
         let guest = Guest::new(alloc, image, input, output_limit, layout)?;
         Ok(TimedGuest {
             guest,
             state,
-            index,
-            is_usual: is_usual(timing),
+            lines,
+            is_usual,
         })
     }
 
@@ -167,8 +170,11 @@ impl<'a> TimedGuest<'a> {
     {
         match selected {
             Some(line) => {
-                self.index.has_line(line, self.pc(hart))
-                    || (!self.is_usual && self.is_charged(hart, selected))
+                if self.is_usual {
+                    self.lines.has_line(line, self.pc(hart))
+                } else {
+                    self.counts_for(hart, line)
+                }
             }
             None => false,
         }
@@ -177,13 +183,14 @@ impl<'a> TimedGuest<'a> {
     /// The line that the next instruction of a hart that was made counts for: its own, or if it has
     /// none and the machine charges such code the hart's last line. It is the one line that, if
     /// selected, has the instruction selected.
+    #[inline]
     pub fn line_of(&self, hart: HartId) -> Option<LineId>
         requires { IsMade self.now hart.0 }
         ensures line { number_of result ≡ line_counted self.now hart.0 }
         ensures selected { (selected : ℕ) → is_selected_by (Some selected) self.now hart.0
             ≡ is_at selected (number_of result) }
     {
-        match self.index.line_of(self.pc(hart)) {
+        match self.lines.line_of(self.pc(hart)) {
             Some(line) => Some(line),
             None => self.line_charged(hart),
         }
@@ -314,23 +321,25 @@ impl<'a> TimedGuest<'a> {
     {
         self.guest.copy_from(&other.guest);
         self.state.copy_from(&other.state);
-        self.index = other.index;
+        self.lines.copy_from(&other.lines);
         self.is_usual = other.is_usual;
     }
 
     /// The line of a hart's next instruction, as it is noted: none on a machine that charges none.
+    #[inline]
     fn line_noted(&self, hart: HartId) -> Option<LineId>
         requires { IsMade self.now hart.0 }
         ensures { result ≡ line_noted self.now hart.0 }
     {
         match self.state.timing().charge {
-            Charge::Last => self.index.line_of(self.guest.pc(hart)),
+            Charge::Last => self.lines.line_of(self.guest.pc(hart)),
             Charge::Nobody => None,
         }
     }
 
     /// The line that code without a line is charged to as a hart runs it: none on a machine that
     /// charges none.
+    #[inline]
     fn line_charged(&self, hart: HartId) -> Option<LineId>
         ensures { number_of result ≡ line_charged self.now hart.0 }
     {
@@ -340,22 +349,26 @@ impl<'a> TimedGuest<'a> {
         }
     }
 
-    /// Whether a hart's next instruction is charged to the selected line.
+    /// Whether a hart's next instruction counts for a line.
     #[inline]
-    fn is_charged(&self, hart: HartId, selected: Option<LineId>) -> bool
+    fn counts_for(&self, hart: HartId, line: LineId) -> bool
         requires { IsMade self.now hart.0 }
-        ensures { result ≡ is_charged_to (number_of selected) self.now hart.0 }
+        ensures { result ≡ is_selected_by (Some line.0) self.now hart.0 }
     {
-        self.state.is_charged(hart, self.line_noted(hart), selected)
+        match self.line_of(hart) {
+            Some(own) => own.0 == line.0,
+            None => false,
+        }
     }
 
     /// Whether a hart's next instruction gives its slice up.
+    #[inline]
     fn gives_up(&self, hart: HartId) -> bool
         requires { IsMade self.now hart.0 }
         ensures { result ≡ gives_up self.now.guest hart.0 }
     {
-        matches!(self.guest.next(hart), Some(Instr::Ecall))
-            && self.guest.number(hart) == SCHED_YIELD
+        self.guest.number(hart) == SCHED_YIELD
+            && matches!(self.guest.next(hart), Some(Instr::Ecall))
     }
 
     /// Retires as `retire` does, on any machine.

@@ -12,6 +12,7 @@
 #![tactic(auto)]
 
 mod guest;
+mod lines;
 
 ghost use Rattle.timed_guest.specs.Laws.{CountsGrow, PlainRunsFollow, TimedRunsAreLawful, TimedRunsFollow, UsualGuestsAreAlone};
 
