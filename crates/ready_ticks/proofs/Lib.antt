@@ -1,0 +1,4 @@
+mod Changes
+mod Told
+mod Nobody
+mod Moves
