@@ -2,3 +2,4 @@ mod Changes
 mod Told
 mod Nobody
 mod Moves
+mod Passing

@@ -12,11 +12,11 @@
 //! ```
 #![tactic(auto)]
 
-ghost use Rattle.ready_ticks.specs.Laws.{NobodyIsReady, NotesTellTheNext, TheLineMoves};
+ghost use Rattle.ready_ticks.specs.Laws.{NobodyIsReady, NotesTellTheNext, RunsPass, TheLineMoves};
 
 mod waits;
 
-use timing_laws::Counted;
+use timing_laws::{Counted, Lawful};
 pub use waits::{Wait, Waits};
 
 /// With a core for each hart that may run, no hart is ever ready.
@@ -34,4 +34,11 @@ pub fn notes_tell_the_next()
 /// start from its head.
 pub fn the_line_moves()
     ensures { TheLineMoves }
+{}
+
+/// Each move after which a run on cores goes on passes harts into the line and out of it, as `Waits`
+/// notes them: those that the guest makes or wakes and the one that gives its core up, and those
+/// that start.
+pub fn runs_pass<G: Lawful>()
+    ensures { RunsPass G.experiment }
 {}
