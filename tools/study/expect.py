@@ -3,6 +3,7 @@ import collections
 import fractions
 import os
 
+from study.books import Book
 from study.curves import Profile
 from study.names import readable
 from study.told import Stop, say
@@ -13,10 +14,8 @@ SHOWN, WORTH = 5, 0.01
 def expected_of(asked):
     """The profile that --expect names; of a study's folder it is that of its lines, or without sources that of its functions."""
     path = asked.expect
-    if os.path.isdir(path):
-        path = os.path.join(path, "lines.profile" if asked.source else "functions.profile")
     try:
-        profile = Profile(path)
+        profile = Book(path, "lines" if asked.source else "functions") if os.path.isdir(path) else Profile(path)
     except (KeyError, ValueError):
         raise Stop(f"{path} is a profile that was cut off or changed: make it anew")
     if not profile.lines or not profile.points:

@@ -3,6 +3,7 @@ import html
 import os
 import urllib.parse
 
+from study.curves import margin
 from study.names import readable
 
 SHOWN = 20
@@ -43,29 +44,38 @@ def cell(text):
     return f"<td>{text}</td>"
 
 
-def row_of(row, texts, path):
+def number(value, error):
+    """A value in per cent, with its interval if it has one."""
+    if value is None:
+        return "absent"
+    return f"{value:.2f}%" + (f" &plusmn; {margin(error):.2f}" if error is not None else "")
+
+
+def row_of(row, speedups, texts, path):
     text = texts.of(row.label) if texts else ""
     name = html.escape(row.label) + (f"<br><code>{html.escape(text)}</code>" if text else "")
-    numbers = row.mean, row.best, row.worst, row.cost, path.get(row.label, 0)
-    numbers = [f"{it:.2f}%" if it is not None else "absent" for it in numbers]
-    return "<tr>" + "".join(map(cell, [name, *numbers])) + "</tr>"
+    steps = {it.speedup: (it.value / 100, None if it.error is None else it.error / 100) for it in row.steps}
+    numbers = [(row.mean, row.error), *(steps.get(it, (None, None)) for it in speedups), (row.cost, None),
+               (path.get(row.label, 0), None)]
+    return "<tr>" + "".join(map(cell, [name, *(number(*it) for it in numbers)])) + "</tr>"
 
 
 class Table:
     """Rows of lines or functions with their shares of the critical path, and the page of their curves."""
 
-    def __init__(self, noun, rows, path, file, texts=None):
-        self.noun, self.rows, self.path, self.file, self.texts = noun, rows, path, file, texts
+    def __init__(self, noun, rows, path, file, speedups, texts=None):
+        self.noun, self.rows, self.path, self.file, self.speedups, self.texts = noun, rows, path, file, speedups, texts
 
     def html(self):
-        heads = "".join(f"<th>{it}</th>" for it in (self.noun, "Mean gain", "Best", "Worst", "Cost", "Critical path"))
-        rows = "\n".join(row_of(it, self.texts, self.path) for it in self.rows[:SHOWN])
+        names = (self.noun, "Mean gain", *(f"At {it}%" for it in self.speedups), "Cost", "Critical path")
+        heads = "".join(f"<th>{it}</th>" for it in names)
+        rows = "\n".join(row_of(it, self.speedups, self.texts, self.path) for it in self.rows[:SHOWN])
         return (f"<h2>{self.noun}s by what they gain</h2>\n"
                 f'<p><a href="{self.file}">The curves of the {self.noun.lower()}s</a></p>\n'
                 f"<table>\n<tr>{heads}</tr>\n{rows}\n</table>")
 
 
-def page_of(program, paragraphs, tables):
+def page_of(program, paragraphs, tables, schedules):
     """The page, whose names of C++ are as their sources write them."""
     name = html.escape(os.path.basename(program))
     told = "\n".join(f"<p>{html.escape(it)}</p>" for it in paragraphs)
@@ -82,8 +92,8 @@ def page_of(program, paragraphs, tables):
 <h1>What to make faster in {name}</h1>
 {told}
 {shown}
-<p>The mean gain is that of all speedups. Gains, costs and shares are in per cent of the net time; the cost is that of all threads
-together.</p>
+<p>Gains are those of {schedules}; &plusmn; is two standard errors. The mean gain is that of all speedups. Gains, costs and shares
+are in per cent of the net time; the cost is that of all threads together.</p>
 </body>
 </html>
 """

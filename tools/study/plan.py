@@ -11,8 +11,7 @@ from study.told import say, several
 # A file that is half has a name of its machine and process, and is removed at the end, unless the shell is killed.
 KEEP = ('f=$1 p=$1.$(uname -n).$$.half; shift; [ -e "$f" ] || { trap "rm -f \\"\\$p\\"" EXIT; trap "exit 1" HUP INT TERM; '
         '"$@" > "$p" || [ $? = 1 ] && mv -f "$p" "$f"; }')
-NEXT = {"functions": "when they are done, plan the lines by the same words",
-        "lines": "when they are done, the same words without plan tell what they found"}
+PLAN_AGAIN, TELL = "when they are done, plan again by the same words", "when they are done, the same words without plan tell what they found"
 
 
 def kept(file, words):
@@ -24,8 +23,8 @@ def commands(study):
     """The commands of the first stage that has runs left."""
     for stage in stages(study):
         if stage.left:
-            say(f"{several(len(stage.left), 'command')}: {NEXT[stage.name]}")
-            return [kept(file, stage.words(shard)) for file, shard in stage.left]
+            say(f"{several(len(stage.left), 'command')}: {TELL if study.course.is_last(stage) else PLAN_AGAIN}")
+            return [kept(it.file, it.words) for it in stage.left]
         make(stage)
     say("no runs are left: the same words without plan tell what they found")
     return []

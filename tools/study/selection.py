@@ -1,12 +1,12 @@
 """Which functions and lines are profiled, and how many runs that are."""
-import json
-import os
-
 from study import weigh
+from study.calls import callers
 from study.lines import Lines
 from study.places import call, tool, write_whole
 from study.program import functions_of
-from study.shards import Stage
+
+# Of the lines that call code without lines so many are profiled at most.
+MOST_CHARGED = 20
 
 
 class Functions:
@@ -39,19 +39,28 @@ class Selection:
     """Which functions and lines are profiled."""
 
     def __init__(self, study):
-        self.study = study
+        self.study, self.charged = study, []
         self.weights = weigh.Weights(study.coz, study.hot, study.program, study.options, study.budget)
         self.functions = Functions(study) if study.functions else None
         if self.functions:
             self.functions.weights.tell_left_out("functions", self.functions.labels, study.least)
+        if study.machine.charges and self.weights.bare >= study.least:
+            self.charge()
         self.weights.tell_left_out("lines", list(study.lines.entries), study.least)
         if self.functions:
             weigh.tell_without_lines(self.functions.weights, self.functions.lines.entries, study.library)
 
+    def charge(self):
+        """Finds the lines to which code without lines is charged, those that start most often."""
+        starts = self.weights.starts
+        found = [it for it in callers(self.study.data, self.study.lines) if starts.get(it)]
+        self.charged = sorted(found, key=lambda it: -starts[it])[:MOST_CHARGED]
+        self.weights.charge(self.charged)
+
     def wanted(self, functions):
-        """The lines of these functions and of the critical path that can matter."""
+        """The lines of these functions and of the critical path that can matter, and those that are charged."""
         path = sorted(self.weights.path, key=lambda it: -self.weights.path[it])[:self.study.top]
-        wanted = set(path) | (self.functions.lines_of(functions) if self.functions else set())
+        wanted = set(path) | set(self.charged) | (self.functions.lines_of(functions) if self.functions else set())
         return self.weights.kept(self.study.in_order(wanted), self.study.least)
 
     def expected(self):
@@ -73,19 +82,10 @@ class Selection:
     def function_labels(self):
         return self.functions.weights.kept(self.functions.labels, self.study.least) if self.functions else []
 
-    def function_stage(self):
-        labels = self.function_labels()
-        return Stage(self.study, "functions", self.functions.program, labels) if labels else None
 
-
-def rest_of(selection):
-    """The runs after those of the functions, if the functions with most of the critical path are those that gain most."""
-    study = selection.study
-    if os.path.exists(study.path("lines.profile")):
-        return 0
-    if os.path.exists(study.path("lines.plan")):
-        with open(study.path("lines.plan"), encoding="utf-8") as file:
-            shards = json.load(file)
-        left = [it for k, it in enumerate(shards) if not os.path.exists(study.path(f"lines.{k}.profile"))]
-        return sum(map(len, left)) * (len(study.speedups) + 1)
-    return selection.expected() * (len(study.speedups) + 1)
+def finalists(rows, gains, dear, harms):
+    """The labels that are tried on all schedules, so many in all if there are as many: those that gain most on the first one, the
+    dearest, and those that hurt most."""
+    by_cost = sorted(rows, key=lambda it: -(it.cost or 0))
+    wanted = [*rows[:gains], *by_cost[:dear], *(rows[-harms:] if harms else []), *rows]
+    return list(dict.fromkeys(it.label for it in wanted))[:gains + dear + harms]

@@ -1,4 +1,5 @@
 """Makes a profile in shards: each is a file that has its name only when it is whole, so that an interruption keeps it."""
+import collections
 import concurrent.futures
 import glob
 import json
@@ -13,16 +14,25 @@ from study.told import Stop, several, span
 
 LONGEST_WORD = 100_000
 MOST_RUNS = 100_000
-SHARDS = 48
+SHARDS, FEWEST = 48, 3
 MINUTE = 60
 
+# A command that prints a part of a profile: the file that keeps it, the whole profile of which it is a part, its lines, the
+# words of the command, and the runs that it makes.
+Shard = collections.namedtuple("Shard", "file whole labels words runs")
 
-def cut(labels, speedups):
+
+def size_of(count, speedups, most):
+    """How many of so many lines a shard has at most, if there are to be at most so many shards, and none without need of a few."""
+    return min(max(FEWEST, -(-count // most)), MOST_RUNS // (len(speedups) + 1))
+
+
+def cut(labels, speedups, most=SHARDS):
     """The labels in shards, each within the limits of a word and of a profile. They don't depend on the jobs."""
-    most = max(1, min(-(-len(labels) // SHARDS), MOST_RUNS // (len(speedups) + 1)))
+    size = size_of(len(labels), speedups, most)
     shards, room = [], 0
     for label in labels:
-        if not shards or len(shards[-1]) == most or room + len(label) + 1 > LONGEST_WORD:
+        if not shards or len(shards[-1]) == size or room + len(label) + 1 > LONGEST_WORD:
             shards.append([])
             room = 0
         shards[-1].append(label)
@@ -30,64 +40,93 @@ def cut(labels, speedups):
     return shards
 
 
+def runs_of(count, speedups, most=SHARDS):
+    """How many runs a profile of so many lines makes: each shard makes the one in which no line is faster."""
+    return count * len(speedups) + -(-count // size_of(count, speedups, most)) if count else 0
+
+
+class Part:
+    """A profile that is to be made: some lines of a program at some speedups on one schedule. Without speedups it is the run in
+    which no line is faster."""
+
+    def __init__(self, study, name, words, labels, speedups, most=SHARDS):
+        self.whole, self.join = study.path(f"{name}.profile"), study.join
+        shards = cut(labels, speedups, most if speedups else 1)
+        self.shards = []
+        for k, them in enumerate(shards):
+            file = self.whole if len(shards) == 1 else study.path(f"{name}.{k}.profile")
+            full = [*words, "--progress", ",".join(study.points), "--lines", ",".join(them), "--speedups",
+                    ",".join(map(str, speedups or [0])), "--workers", "1"]
+            self.shards.append(Shard(file, self.whole, them, full, len(them) * len(speedups) + 1))
+
+    def finish(self):
+        """Joins the shards, which are all there."""
+        if not os.path.exists(self.whole):
+            write_whole(self.whole, call([self.join, *(it.file for it in self.shards)]))
+
+
+def is_left(file, whole):
+    return not os.path.exists(whole) and not os.path.exists(file)
+
+
 class Stage:
-    """A profile that is to be made: the lines of a program, in the shards that are not there yet."""
+    """Profiles that are made together, in the shards that are not there yet."""
 
-    def __init__(self, study, name, program, labels):
-        self.study, self.name, self.program, self.labels = study, name, program, labels
-        shards = cut(labels, study.speedups)
-        self.files = [study.path(f"{name}.{k}.profile") for k in range(len(shards))]
-        self.whole = study.path(f"{name}.profile")
-        self.check(shards)
-        self.left = [] if os.path.exists(self.whole) else \
-            [(file, shard) for file, shard in zip(self.files, shards) if not os.path.exists(file)]
+    def __init__(self, study, name, told, parts):
+        self.study, self.name, self.told, self.parts = study, name, told, parts
+        self.shards = [shard for part in parts for shard in part.shards]
+        self.check()
+        self.left = [it for it in self.shards if is_left(it.file, it.whole)]
 
-    def check(self, shards):
+    def check(self):
         """Keeps the plan of the shards, or sees that it is the one by which the files were made."""
         path = self.study.path(f"{self.name}.plan")
+        plan = [[os.path.basename(it.file), os.path.basename(it.whole), it.labels, it.runs] for it in self.shards]
         if not os.path.exists(path):
-            write_whole(path, json.dumps(shards).encode())
+            write_whole(path, json.dumps(plan).encode())
             return
         with open(path, encoding="utf-8") as file:
-            if json.load(file) != shards:
+            if json.load(file) != plan:
                 raise Stop(f"{self.study.dir} has files of other {self.name}: name another folder with --dir")
 
-    def runs(self, lines):
-        return lines * (len(self.study.speedups) + 1)
+    def runs(self):
+        return sum(it.runs for it in self.shards)
 
     def runs_left(self):
-        return self.runs(sum(len(shard) for _, shard in self.left))
+        return sum(it.runs for it in self.left)
 
     def make(self, progress):
-        """Makes the shards that are left, and joins all of them."""
-        if os.path.exists(self.whole):
-            return self.whole
+        """Makes the shards that are left, and joins those of each profile."""
         pool = Pool(self.study.jobs)
-        pool.run([lambda it=it: self.make_shard(pool, progress, *it) for it in self.left])
-        write_whole(self.whole, call([self.study.join, *self.files]))
-        remove(self.study.dir, f"{self.name}.*.half")
-        return self.whole
+        pool.run([lambda it=it: self.make_shard(pool, progress, it) for it in self.left])
+        for it in self.parts:
+            it.finish()
+        remove(self.study.dir, "*.half")
 
-    def words(self, shard):
-        """The command that prints the profile of a shard."""
-        study = self.study
-        return [study.coz, "profile", self.program, *study.options, "--progress", ",".join(study.points),
-                "--lines", ",".join(shard), "--speedups", ",".join(map(str, study.speedups)), "--workers", "1"]
-
-    def make_shard(self, pool, progress, file, shard):
-        part = file + ".part"
+    def make_shard(self, pool, progress, shard):
+        part = shard.file + ".part"
         try:
             with open(part, "wb") as out:
-                status, said = pool.child(self.words(shard), out)
+                status, said = pool.child(shard.words, out)
             if pool.stopped:
                 return
             if status not in (0, 1):
-                raise Stop(f"coz profile: {said or f'status {status}'}")
-            os.replace(part, file)
-            progress.step(self.runs(len(shard)))
+                raise Stop(f"{os.path.basename(shard.words[0])}: {said or f'status {status}'}")
+            os.replace(part, shard.file)
+            progress.step(shard.runs)
         finally:
             if os.path.exists(part):
                 os.unlink(part)
+
+
+def planned_left(study, name):
+    """How many runs of a stage whose plan is kept are left; None without a plan."""
+    try:
+        with open(study.path(f"{name}.plan"), encoding="utf-8") as file:
+            plan = json.load(file)
+    except FileNotFoundError:
+        return None
+    return sum(runs for file, whole, _, runs in plan if is_left(study.path(file), study.path(whole)))
 
 
 def remove(folder, pattern):

@@ -1,6 +1,9 @@
 """The story of a study, in sentences with numbers: what to make faster, what not, what hurts, and who has the critical path."""
+import collections
 import textwrap
 
+from study.curves import margin
+from study.machine import COSTS
 from study.names import readable
 from study.paths import MOST_EVENTS
 from study.told import listed, say
@@ -20,16 +23,28 @@ CAUTION = ("Each gain is that of one line alone, and all of this is said of the 
 ALONE = ("Each gain is that of one line alone, and all of this is said of one input, and of coz's costs of instructions, without "
          "caches: try a second input before you build on a gain.")
 
+SEVERAL = ("Each gain is that of one line alone, as a mean of {machine}; the brackets hold two standard errors on both sides. Another "
+           "input or another number of threads can gain otherwise: try a second input before you build on a gain.")
+
+# The value of a row at a speedup.
+Near = collections.namedtuple("Near", "speedup value error")
+
 
 def at(speedup):
     return PARTS.get(speedup, f"at {speedup} per cent less cost")
 
 
-def takes(value):
+def interval(value, error):
+    """The interval of a value, in brackets; nothing of one schedule."""
+    return "" if error is None else f" ({value - margin(error):.1f} to {value + margin(error):.1f})"
+
+
+def takes(value, error=None):
     """How much less time something takes, of a value in per cent."""
+    less = value > 0
     if abs(value) < 0.05:
-        return "takes as long as before"
-    return f"takes {abs(value):.1f} per cent {'less' if value > 0 else 'more'} time"
+        return f"takes as long as before{interval(value, error)}"
+    return f"takes {abs(value):.1f} per cent {'less' if less else 'more'} time{interval(value if less else -value, error)}"
 
 
 def nearest_of(steps, speedup):
@@ -38,9 +53,9 @@ def nearest_of(steps, speedup):
 
 
 def nearest(row, speedup):
-    """The speedup of a row that is nearest to this one, and its value in per cent."""
+    """The speedup of a row that is nearest to this one, its value in per cent, and the error of that."""
     step = nearest_of(row.steps, speedup)
-    return step.speedup, step.value / 100
+    return Near(step.speedup, step.value / 100, None if step.error is None else step.error / 100)
 
 
 def is_sound(row, cost):
@@ -55,14 +70,15 @@ class Story:
 
     def __init__(self, study, lines, functions, latencies):
         self.study, self.lines, self.functions, self.latencies = study, lines, functions, latencies
-        self.weights, self.alone = study.selection.weights, study.first.harts == 1
-        self.best = [it for it in lines if nearest(it, HALF)[1] >= WORTH and self.is_sound(it)][:GAINS]
+        self.course, self.selection = study.course, study.course.selection
+        self.weights, self.alone, self.several = self.selection.weights, study.first.harts == 1, self.course.several
+        self.best = [it for it in lines if self.is_worth(it)][:GAINS]
 
     def paragraphs(self):
         gains = [self.gain(it, it is self.best[0]) for it in self.best] or [self.no_gain()]
-        told = [*gains, *self.whole_function(), *map(self.latency, self.latencies), *self.unsound(), *self.leave(), self.hurt(),
-                self.path()]
-        told.append(ALONE if self.alone else CAUTION)
+        told = [*gains, *self.whole_function(), *self.at_other_costs(), *map(self.latency, self.latencies), *self.unsound(),
+                *self.leave(), self.hurt(), self.path()]
+        told.append(ALONE if self.alone else SEVERAL.format(machine=self.course.schedules()) if self.several else CAUTION)
         return [readable(it) for it in told]
 
     def unit(self, row):
@@ -74,46 +90,56 @@ class Story:
         return f"a visit of {label}" + (f" ('{names[0]}')" if names else "")
 
     def weights_of(self, row):
-        return self.study.selection.functions.weights if row in self.functions else self.weights
+        return self.selection.functions.weights if row in self.functions else self.weights
 
     def cost(self, row):
         """What a line or function costs in the run as it is, in per cent of the net time."""
+        if row.cost is not None:
+            return row.cost
         return 100 * self.weights_of(row).ticks.get(row.label, 0) / max(self.study.first.net, 1)
 
     def is_sound(self, row):
-        return is_sound(row, self.cost(row))
+        """Whether a gain can be built on: of several schedules every one whose interval is above 0."""
+        return row.is_gain() if self.several else is_sound(row, self.cost(row))
+
+    def is_worth(self, row):
+        """Whether a row gains enough at half its cost, and not by chance."""
+        near = nearest(row, HALF)
+        return near.value >= WORTH and near.value > margin(near.error) and self.is_sound(row)
 
     # ---- what to make faster
 
     def is_own(self, row):
         """Whether a line or a function is the user's own, and not of a library."""
-        entries = self.study.selection.functions.lines.entries if row in self.functions else self.study.lines.entries
+        entries = self.selection.functions.lines.entries if row in self.functions else self.study.lines.entries
         return self.study.is_own(row.label, entries[row.label])
 
     def name(self, row):
         """The name of a line or a function, and of which library it is."""
         path, _, number = row.label.rpartition(":")
         if row in self.functions and "/" not in path and number == "1":
-            entry = min(self.study.selection.functions.lines.entries[row.label])
+            entry = min(self.selection.functions.lines.entries[row.label])
             return f"the function {path} ({kind_of(path, entry, self.study.library)})"
         library = "" if self.is_own(row) else " (library of C++)" if path.startswith("cxx/") else " (C library)"
         return f"{'the function ' if row in self.functions else ''}{row.label}{library}"
 
     def gain(self, row, is_first):
-        half, value = nearest(row, HALF)
+        half, value, error = nearest(row, HALF)
         do = f"make {row.label} faster" if self.is_own(row) else f"spend less in {self.name(row)}"
         do = do[0].upper() + do[1:] if is_first else f"Then {do}"
-        text = f"{do}: {at(half)}, {self.unit(row)} {takes(value)}"
-        less, its = nearest(row, QUARTER)
+        text = f"{do}: {at(half)}, {self.unit(row)} {takes(value, error)}"
+        less, its, error = nearest(row, QUARTER)
         if less < half and its < value - min(APART, LITTLE * value):
-            text += f", and {at(less)} {its:.1f} per cent less" if its >= 0.05 else f", but {at(less)} nothing is gained"
+            is_more = its >= 0.05 and its > margin(error)
+            none = "no gain can be told from 0" if self.several else "nothing is gained"
+            text += f", and {at(less)} {its:.1f} per cent less{interval(its, error)}" if is_more else f", but {at(less)} {none}"
         return f"{text}. {self.shape(row)}{self.share(row)}"
 
     def shape(self, row):
         """What the steps of a curve say, beside its value at the half."""
         if row.above:
-            return ("That is more than is taken from the line itself: others wait less, as for a lock that it holds, or it is an "
-                    "accident of this one schedule. ")
+            return ("That is more than is taken from the line itself: others wait less, as for a lock that it holds, or "
+                    + ("the threads then meet in another order. " if self.several else "it is an accident of this one schedule. "))
         first = next(it for it in row.steps if it.value / 100 >= row.best - min(APART, LITTLE * row.best))
         if first.speedup < row.steps[-1].speedup:
             return f"More than {first.speedup} per cent less cost gains nothing more, for then something else is waited for. "
@@ -122,6 +148,8 @@ class Story:
     def share(self, row):
         if self.alone:
             return f"It has {self.cost(row):.1f} per cent of the time."
+        if row.label in self.selection.charged:
+            return "The code without lines that it calls counts as its own. "
         if row.label not in self.weights.path:
             return "" if self.whole() else "It is not on the critical path of the first instructions. "
         return f"It has {self.weights.path[row.label]:.1f} per cent of the critical path{self.first()}."
@@ -133,12 +161,30 @@ class Story:
 
     def whole_function(self):
         """The function that gains most, if it gains more than its lines do."""
-        rows = [it for it in self.functions if nearest(it, HALF)[1] >= WORTH and self.is_sound(it)]
+        rows = [it for it in self.functions if self.is_worth(it)]
         most = max((nearest(it, HALF)[1] for it in self.best), default=0)
         if not rows or nearest(rows[0], HALF)[1] < most + max(APART, LITTLE * most):
             return []
-        half, value = nearest(rows[0], HALF)
-        return [f"As a whole, {self.name(rows[0])} gains most: {at(half)}, {self.unit(rows[0])} {takes(value)}."]
+        half, value, error = nearest(rows[0], HALF)
+        return [f"As a whole, {self.name(rows[0])} gains most: {at(half)}, {self.unit(rows[0])} {takes(value, error)}."]
+
+    def at_other_costs(self):
+        """Whether the best lines stay the best ones where some instructions cost more."""
+        told = []
+        for name, what in COSTS.items():
+            verdicts = self.course.verdicts(name)
+            fail = [it for it in verdicts if not it.stays]
+            if not verdicts:
+                continue
+            best = "The line that gains most does so" if len(verdicts) == 1 else f"The {len(verdicts)} lines that gain most do so"
+            if not fail:
+                told.append(f"{best} too {what}.")
+                continue
+            lines = [f"{it.label} gains {it.mean:.1f} per cent in the mean{interval(it.mean, it.error)}" if it.known else
+                     f"nothing is known of {it.label}" for it in fail]
+            told.append(f"{what[0].upper()}{what[1:]}, {' and '.join(lines)}, and {'are' if len(fail) > 1 else 'is'} not one of the "
+                        f"best lines. {'The others are still.' if len(fail) < len(verdicts) else ''}".rstrip())
+        return [" ".join(told)] if told else []
 
     def latency(self, latency):
         """How long a request takes, and with which line least."""
@@ -161,6 +207,8 @@ class Story:
 
     def unsound(self):
         """The lines whose gains are accidents of the schedule."""
+        if self.several:
+            return []
         rows = [self.name(it) for it in self.lines if it.best >= WORTH and not self.is_sound(it)]
         if not rows:
             return []
@@ -172,21 +220,21 @@ class Story:
         """The lines that cost much and gain little, and then the functions that do, without those of these lines."""
         dear = [it for it in self.lines if self.is_dear(it)]
         told = {it.label for it in [*self.best, *dear]}
-        lines_of = self.study.selection.functions.lines_of if self.functions else None
+        lines_of = self.selection.functions.lines_of if self.functions else None
         dear += [it for it in self.functions if self.is_dear(it) and not told & lines_of([it.label])]
         dear.sort(key=lambda it: -self.cost(it))
         return [self.left_as_it_is(it) for it in dear[:LEFT]]
 
     def is_dear(self, row):
-        half, value = nearest(row, HALF)
+        half, value, _ = nearest(row, HALF)
         cost = self.cost(row)
         return cost >= DEAR and value < min(LITTLE * cost * half / 100, WORTH)
 
     def left_as_it_is(self, row):
-        half, value = nearest(row, HALF)
+        half, value, error = nearest(row, HALF)
         cost, path = self.cost(row), self.weights_of(row).path.get(row.label, 0)
         text = (f"Leave {self.name(row)} as it is: it costs {cost:.1f} per cent of the net time, all threads together, and yet "
-                f"{at(half)} {self.unit(row)} {takes(value)}.")
+                f"{at(half)} {self.unit(row)} {takes(value, error)}.")
         if path < 0.05:
             return f"{text} It has no part in the critical path{self.first()}: nothing waits for it."
         text += f" It has {path:.1f} per cent of the critical path{self.first()}"
@@ -197,11 +245,20 @@ class Story:
         return f"{text}."
 
     def hurt(self):
+        if self.several:
+            return self.hurt_on_all()
         rows = sorted((it for it in self.lines if it.worst <= -HURTS), key=lambda it: it.worst)[:HARMS]
         if not rows:
             return f"No profiled line makes the program slower by {HURTS:g} per cent or more if it is faster itself."
         told = [f"{self.name(it)} (by up to {-it.worst:.1f} per cent)" for it in rows]
         return f"Beware of {' and '.join(told)}: on this schedule, a visit takes more time if such a line is faster."
+
+    def hurt_on_all(self):
+        rows = sorted((it for it in self.lines if it.is_harm() and it.mean <= -HURTS), key=lambda it: it.mean)[:HARMS]
+        if not rows:
+            return f"No line that was tried on all schedules makes the program slower by {HURTS:g} per cent or more if it is faster itself."
+        told = [f"{self.name(it)}, by {-it.mean:.1f} per cent in the mean{interval(-it.mean, it.error)}" for it in rows]
+        return f"Beware of {' and '.join(told)}: a visit takes more time if such a line is faster."
 
     # ---- the critical path
 

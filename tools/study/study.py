@@ -1,33 +1,31 @@
 """coz-study PROG: from a program to the lines that are worth making faster."""
 import hashlib
-import html
 import json
 import os
+import time
 
-from study import page, points, story
-from study.curves import Profile, rows_of, show
-from study.latencies import latencies_of, tell_latency
-from study.names import readable
+from study import points, report
+from study.machine import Machine
 from study.places import call, tool, write_whole
 from study.program import functions_of
-from study.selection import Selection, rest_of
-from study.shards import Progress, Stage, remove
+from study.shards import Progress, remove
+from study.stages import Course
 from study.target import Target, tell_marks
 from study.told import Stop, say, several, span
 
-BEST, WORST = 10, 5
-PLAN = 3
+PLAN = 4
 
 
 class Study(Target):
     def __init__(self, asked):
         super().__init__(asked)
-        self.anyway = asked.anyway
+        self.asked, self.anyway = asked, asked.anyway
         self.speedups, self.functions, self.top, self.least = asked.speedups, asked.functions, asked.top, asked.least
         self.fed = asked.input
         self.dir, self.source = asked.dir or asked.program + ".study", asked.source
+        self.schedules, self.seed, self.best = asked.schedules, asked.seed, asked.best
         self.hot, self.join, self.page = None, None, None
-        self.first, self.visits, self.selection = None, [], None
+        self.first, self.visits, self.machine, self.course = None, [], None, None
         if self.source is not None and not os.path.isdir(self.source):
             raise Stop(f"{self.source} is no folder: --source names the one in which the paths of the lines begin")
         self.kept = self.read_kept()
@@ -37,7 +35,7 @@ class Study(Target):
         """What a study must have in common with the one that it goes on with."""
         return {"plan": PLAN, "program": digest(self.data), "input": digest(self.input), "points": self.points,
                 "budget": self.budget, "speedups": self.speedups, "functions": self.functions, "top": self.top,
-                "least": self.least}
+                "least": self.least, "schedules": self.schedules, "seed": self.seed, "cores": self.machine.cores, "best": self.best}
 
     def path(self, name):
         return os.path.join(self.dir, name)
@@ -60,7 +58,8 @@ class Study(Target):
         if not self.kept:
             write_whole(self.path("study.json"), json.dumps(same).encode())
             return
-        names = {"plan": "version of coz-study", "least": "--least", "speedups": "list of speedups"}
+        names = {"plan": "version of coz-study", "least": "--least", "speedups": "list of speedups", "schedules": "--schedules",
+                 "seed": "--seed", "cores": "--cores", "best": "--best"}
         other = [names.get(it, it) for it in same if self.kept.get(it) != same[it]]
         if other:
             raise Stop(f"{self.dir} is a study with another {', '.join(other)}: name another folder with --dir")
@@ -106,16 +105,32 @@ def choose_points(study):
         tell_marks(study)
 
 
-def tell_runs(study, stage, seconds, rest=0):
-    """Says how many runs are left: those of this stage, and about so many of the later ones."""
-    left = stage.runs_left() if stage else 0
-    if rest:
-        say(f"about {several(left + rest, 'run')} are left, at most {span((left + rest) * seconds / study.jobs)} "
-            f"with {study.jobs} at a time")
-    if stage:
-        what = several(len(stage.labels), stage.name[:-1])
-        some = " left" if left < stage.runs(len(stage.labels)) else ""
-        say(f"{what}: {several(left, 'run')}{some}" if left else f"{what}: all runs are made")
+def one_run(study, seconds):
+    """How long a run on the machine takes, in seconds. It is made, unless its schedule is that of `coz run`, whose time is given."""
+    machine = study.machine
+    if machine.is_plain:
+        return seconds
+    began = time.monotonic()
+    words = machine.words(study.program, machine.seeds()[0])
+    call([*words, "--progress", ",".join(study.points), "--lines", study.points[0], "--speedups", "0", "--workers", "1"])
+    return time.monotonic() - began
+
+
+def tell_all(study, stage, seconds):
+    """Says beforehand how many runs all stages make, and how long they take at most."""
+    expected = study.course.expected()
+    left = stage.runs_left() + sum(runs for name, runs in expected.items() if name != stage.name)
+    if not left:
+        return
+    more = f"; {study.course.each_coarse()} more for each line whose gain is then not known well" if study.course.several else ""
+    say(f"about {several(left, 'run')} are left, at most {span(left * one_run(study, seconds) / study.jobs)} "
+        f"with {study.jobs} at a time{more}")
+
+
+def tell_stage(stage):
+    left = stage.runs_left()
+    some = " left" if left < stage.runs() else ""
+    say(f"{stage.told}: {several(left, 'run')}{some}" if left else f"{stage.told}: all runs are made")
 
 
 def make(stage):
@@ -123,80 +138,27 @@ def make(stage):
         stage.make(progress)
 
 
-def write_page(study, name, options=()):
-    """Leaves the page of a profile's curves, which names the program and its input."""
-    title = f"{name} of {os.path.basename(study.program)}" + (f" with {os.path.basename(study.fed)}" if study.fed else "")
-    options = [f"--title={title}", *options]
-    text = call([study.page, study.path(f"{name}.profile"), *options], 0).decode(errors="surrogateescape")
-    write_whole(study.path(f"{name}.html"), readable(page.linked(text), html.escape).encode(errors="surrogateescape"))
-
-
-def tell_functions(study, selection, stage):
-    """Says which functions gain most, and gives their labels."""
-    rows = selection.functions.best(rows_of(Profile(stage.whole)))
-    write_page(study, "functions")
-    show(rows, "functions by what they gain in the mean of the speedups:")
-    return [it.label for it in rows]
-
-
-def report(study, rows, latencies):
-    """Prints the lines that gain most and those that hurt, and how long requests take."""
-    gained = [it for it in rows if it.best > 0][:BEST]
-    if gained:
-        show(gained, "lines by what they gain in the mean of the speedups:")
-    else:
-        say("no line gains anything at the progress point")
-    hurt = sorted((it for it in rows if it.worst < 0), key=lambda it: it.worst)[:WORST]
-    if hurt:
-        show(hurt, "lines that make the program slower where they are faster:")
-    for it in latencies:
-        tell_latency(it)
-
-
-def tell_story(study, rows, latencies):
-    """Prints the story, and leaves it in index.html with tables of the lines and functions."""
-    whole = study.path("functions.profile")
-    functions = rows_of(Profile(whole)) if os.path.exists(whole) else []
-    told = story.Story(study, rows, functions, latencies).paragraphs()
-    selection = study.selection
-    tables = [page.Table("Line", rows, selection.weights.path, "lines.html", page.Texts(study.source or "."))]
-    if functions:
-        tables.append(page.Table("Function", functions, selection.functions.weights.path, "functions.html"))
-    text = page.page_of(study.program, told, tables)
-    write_whole(study.path("index.html"), text.encode(errors="surrogateescape"))
-    say(f"page: {study.path('index.html')}")
-    story.tell(told)
-
-
 def stages(study):
-    """The stages of a study, the functions and the lines. The second is chosen by what the first found, so the profile of a
-    stage must be whole before the next stage is asked for."""
+    """The stages of a study. What is profiled in one is chosen by what the others found, so each must be made before the next is
+    asked for."""
     choose_points(study)
     seconds = first_run(study)
     study.hot, study.join, study.page = tool("coz-hot"), tool("coz-join"), tool("coz-page")
     if study.functions and not functions_of(study.data):
         raise Stop(f"{study.program} has no functions in its symbol table: do not strip it, or profile lines alone, with --functions 0")
+    study.machine = Machine(study, study.asked, study.first.harts)
     study.open()
-    study.selection = selection = Selection(study)
-    stage, best = selection.function_stage(), []
-    if stage:
-        tell_runs(study, stage, seconds, rest=rest_of(selection))
+    say(f"  tried on {study.machine.told()}")
+    study.course = Course(study)
+    for number, stage in enumerate(study.course.stages()):
+        if not number:
+            tell_all(study, stage, seconds)
+        tell_stage(stage)
         yield stage
-        best = tell_functions(study, selection, stage)
-    labels = selection.lines(best)
-    if not labels:
-        raise Stop("the run starts no line that could matter: compile the program with -g, or give a smaller --least")
-    stage = Stage(study, "lines", study.program, labels)
-    tell_runs(study, stage, seconds)
-    yield stage
 
 
 def carry_out(asked):
     study = Study(asked)
     for stage in stages(study):
         make(stage)
-    write_page(study, "lines", [f"--source={study.source or '.'}"])
-    rows = rows_of(Profile(stage.whole))
-    latencies = latencies_of(study, rows)
-    report(study, rows, latencies)
-    tell_story(study, rows, latencies)
+    report.report(study, study.course)

@@ -45,7 +45,8 @@ class Weights:
 
     def __init__(self, coz, hot, program, options, budget):
         costs = costs_of(hot, program, options)
-        self.started = set(costs.starts)
+        self.started, self.starts, self.charged = set(costs.starts), costs.starts, set()
+        self.bare = 100 * costs.bare / max(costs.total, 1)
         self.cost = {it: 100 * cost / max(costs.total, 1) for it, cost in costs.cost.items()}
         self.critical = path_of(coz, program, options, budget)
         self.ticks, net = costs.cost, max(self.critical.net, 1)
@@ -56,8 +57,11 @@ class Weights:
         return max(self.cost.get(label, 0), self.path.get(label, 0))
 
     def kept(self, labels, least):
-        """Those that have at least so many per cent of one of the two."""
-        return [it for it in labels if it in self.started and self.of(it) >= least]
+        """Those that have at least so many per cent of one of the two, or more than is known since other code is charged to them."""
+        return [it for it in labels if it in self.started and (self.of(it) >= least or it in self.charged)]
+
+    def charge(self, labels):
+        self.charged = set(labels)
 
     def tell_left_out(self, what, labels, least):
         kept, started = len(self.kept(labels, least)), sum(it in self.started for it in labels)

@@ -6,7 +6,7 @@ import types
 from study.places import PAGES
 from study.told import Wrong
 
-VERSION = "coz-study 4"
+VERSION = "coz-study 5"
 
 
 # ---- what a value may be
@@ -24,6 +24,19 @@ def count(value):
 
 def count_or_none(value):
     return 0 if value == "0" else count(value)
+
+
+def up_to(most):
+    """A number from 1 to the greatest one."""
+    def read_number(value):
+        try:
+            found = count(value)
+        except ValueError:
+            found = most + 1
+        if found > most:
+            raise ValueError(f"a number from 1 to {most}")
+        return found
+    return read_number
 
 
 def numbers(value):
@@ -80,6 +93,10 @@ STUDIED = [
     Option("speedups", "NUMBERS", numbers, [25, 50, 75, 95], "in per cent, with commas between (25,50,75,95)"),
     Option("functions", "N", count_or_none, 5, "the functions whose lines are profiled, by what they gain; 0 profiles none (5)"),
     Option("top", "N", count, 60, "the lines of the critical path that are profiled, by their share (60)"),
+    Option("schedules", "N", up_to(250), 8, "on how many schedules the best lines are tried; 1 is the one of coz profile (8)"),
+    Option("seed", "S", up_to(1_000_000_000), 1, "the seed of the first schedule; the others have the next ones (1)"),
+    Option("cores", "C", up_to(256), None, "the processors of the machine, if the program has more threads (those of this one)"),
+    Option("best", "N", count, 10, "how many lines are tried on all schedules, by what they gain on the first (10)"),
     Option("least", "PERCENT", per_cent, 0.1, "leaves out what has less of the cost and of the critical path (0.1)"),
     Option("source", "SRC", text, None,
            "the folder in which the paths of the lines begin: the pages show their texts (the folder in which you are)", "folder"),
@@ -97,16 +114,27 @@ PROG is a program that coz runs. The study
 2. finds by a counting run which functions and lines can matter, and leaves out the others;
 3. profiles each of the functions as if it were one line, and finds those that gain most;
 4. profiles the lines of these functions, and the lines with the greatest shares of the critical path;
-5. leaves the pages of their curves in DIR/functions.html and DIR/lines.html, and prints the best and the worst lines;
-6. ends with a story in sentences: what to make faster and what not, what hurts, and who has the critical path. The page
+5. tries the best of them on several schedules, and those that gain most at other costs of instructions;
+6. prints the best and the worst lines, and leaves the pages of the curves in DIR/functions.html and DIR/lines.html;
+7. ends with a story in sentences: what to make faster and what not, what hurts, and who has the critical path. The page
    DIR/index.html has the story, the best lines with their texts, and links to the pages of curves.
 
 Without --progress, the points are those of coz.h's macros in the program. Without these, it is the line of the program's own
 files whose visits fill the run most evenly; `coz-study points PROG` lists the others.
 
+A schedule is the order in which threads meet. Each of the --schedules has a seed, by which some instructions take twice as
+long (coz-gain). Steps 3 and 4 are of the first seed. The functions and lines that gain most there, the dearest, and the lines
+that hurt most are tried on all schedules. A gain is the mean of these, against the mean of four times as many runs as they are.
+It is printed with two standard errors on both sides. If this interval holds 0, the line is not listed as a gain. Lines whose
+error is over 0.5 per cent are tried on four times as many schedules. Time in code without lines is counted as that of the line
+that called it. If the program has more threads than --cores, threads wait for processors.
+
+A program of one thread has one schedule. With --schedules 1 it is that of coz profile: its numbers are exact, they have no
+intervals, and code without lines is nobody's.
+
 Before it profiles, it says how many runs it will make, and about how long they take. Lines and functions that have less than
 --least per cent of the cost and of the critical path are left out; it says how many. The critical path is that of the first
-4,000,000 instructions.
+4,000,000 instructions, on the schedule of coz profile.
 
 Lines are ranked by the mean of their values over the speedups above 0. A line whose value is more than what is taken from the
 line itself is marked, and the mark explained.
@@ -116,13 +144,17 @@ goes on where it was, if it is started again by the same words; --jobs may diffe
 time left to standard error: on a terminal in one line, elsewhere once a minute.
 """, STUDIED),
     Command("plan", "PROG", "file", "prints the runs that are next as shell commands, for other machines", """
-PROG and the options are those of `coz-study PROG`, which goes on from what the commands leave. A study has two stages, the
-functions and then the lines, and the plan is that of the stage that is next:
+PROG and the options are those of `coz-study PROG`, which goes on from what the commands leave. A study has four stages: the
+functions, the lines, the schedules, and the checks of the best lines. With --schedules 1 it has the first two. The plan is that
+of the stage that is next. So plan again until no runs are left:
 
   coz-study plan PROG > runs
   parallel < runs
   coz-study plan PROG > runs
   parallel < runs
+
+and so on, and then
+
   coz-study PROG
 
 Each line is a command for any shell. It makes one shard and leaves it as a file in DIR, whole or not at all. It does nothing if
@@ -158,7 +190,9 @@ With several points each of them counts. The numbers are exact, so nothing is ru
             [*COMPARED, Option("limit", "PERCENT", per_cent, 1.0, "how much slower NEW may be (1)")]),
     Command("export", "DIR", "folder", "prints all curves of a study as CSV or JSON", """
 DIR is where `coz-study PROG` keeps its study. Values and costs are in per cent, net times in ticks. A value says how much less
-net time a visit of the point takes; it is empty, or null, if nothing can be said.
+net time a visit of the point takes; it is empty, or null, if nothing can be said. Of a line that was tried on several schedules
+it is their mean, from low to high with two standard errors on both sides. Of a line of one schedule there is no low and high,
+but what its runs say: net time, visits, end and starts.
 """, [Option("format", "FORMAT", one_of("csv", "json"), "csv", "csv, a row for each line, point and speedup, or json (csv)")]),
     Command("completions", "SHELL", ("bash", "zsh"), "prints a script that completes the words of coz-study", """
 SHELL is bash or zsh. For bash, write the script to ~/.local/share/bash-completion/completions/coz-study. For zsh, write it as
