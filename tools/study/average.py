@@ -7,7 +7,7 @@ import collections
 import fractions
 import math
 
-from study.curves import Block, Mean, Profile, Step, value_of
+from study.curves import Block, Mean, Profile, Step, base_of, value_of
 
 # An exact value is rough if it differs from the average by more than so many hundredths of a per cent, and so many errors.
 ROUGH, ERRORS = 200, 3
@@ -29,11 +29,6 @@ def variance(values):
 def root(number):
     """The whole part of a square root."""
     return math.isqrt(number.numerator // number.denominator)
-
-
-def base_of(profile):
-    """The run of a profile in which no line is faster."""
-    return next(iter(profile.lines.values()))[0]
 
 
 class Averages:

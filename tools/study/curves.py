@@ -53,6 +53,11 @@ class Profile:
         return Mean(sum(values) / len(values) / 100, None) if values else None
 
 
+def base_of(profile):
+    """The run of a profile in which no line is faster."""
+    return next(iter(profile.lines.values()))[0]
+
+
 def value_of(base, block, point):
     """How much less net time a visit takes, in hundredths of a per cent, rounded down."""
     if base is None or not base.net or not base.visits[point] or not block.visits[point]:

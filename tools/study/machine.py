@@ -2,6 +2,7 @@
 import os
 
 from study.places import tool
+from study.told import several
 
 # How many times as many schedules the base has as the lines, and those lines that are not known well enough.
 MORE = 4
@@ -41,11 +42,12 @@ class Machine:
         words += ["--costs", costs] if costs else []
         return words + (["--seed", str(seed)] if seed else [])
 
-    def told(self):
-        """What is tried, in words."""
-        cores = f" on {self.cores} processors" if self.cores else ""
+    def told(self, times=1):
+        """Which schedules are tried, or so many times as many, in words."""
+        cores = f" on {several(self.cores, 'processor')}" if self.cores else ""
         if self.is_plain:
             return "the one schedule of coz profile"
         if self.schedules == 1:
-            return f"one schedule{cores}"
-        return f"{self.schedules} schedules{cores}, of the seeds {self.first} to {self.first + self.schedules - 1}"
+            return f"the one schedule of a program with one thread{cores}" if self.alone else f"one schedule{cores}"
+        seeds = self.seeds(times)
+        return f"{len(seeds)} schedules{cores}, of the seeds {seeds[0]} to {seeds[-1]}"

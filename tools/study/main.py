@@ -5,8 +5,9 @@ import signal
 import sys
 
 from study import help as pages
+from study.reading import HELP, VERSIONS, command_of, read
 from study.told import Stop, Wrong
-from study.words import HELP, VERSION, VERSIONS, command_of, read
+from study.words import VERSION
 
 
 def interrupted(*_):

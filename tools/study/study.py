@@ -112,7 +112,10 @@ def one_run(study, seconds):
         return seconds
     began = time.monotonic()
     words = machine.words(study.program, machine.seeds()[0])
-    call([*words, "--progress", ",".join(study.points), "--lines", study.points[0], "--speedups", "0", "--workers", "1"])
+    text = call([*words, "--progress", ",".join(study.points), "--lines", study.points[0], "--speedups", "0", "--workers", "1"])
+    if b"\tend=exited:" not in text:
+        judge(study, [f"on the schedules of {os.path.basename(machine.program)} the run does not exit: give more with --budget, since "
+                      "threads that wait can take more instructions there"])
     return time.monotonic() - began
 
 

@@ -1,10 +1,8 @@
 """The words of coz-study: one table of its commands and options, by which words are read, help is printed, and shells complete."""
 import difflib
 import os
-import types
 
 from study.places import PAGES
-from study.told import Wrong
 
 VERSION = "coz-study 5"
 
@@ -86,6 +84,9 @@ PROGRESS = Option("progress", "LIST", text, None,
 INPUT = Option("input", "FILE", text, None, "what the program reads from its standard input", "file")
 BUDGET = Option("budget", "N", count, 100_000_000, "the most instructions of a run (100000000)")
 JOBS = Option("jobs", "N", count, os.cpu_count() or 1, "how many runs are made at a time (the number of processors)")
+SCHEDULES = Option("schedules", "N", up_to(250), 8, "how many schedules are tried; 1 is the one of coz profile (8)")
+SEED = Option("seed", "S", up_to(1_000_000_000), 1, "the seed of the first schedule; the others have the next ones (1)")
+CORES = Option("cores", "C", up_to(256), None, "the processors of the machine, if the program has more threads (those of this one)")
 ANYWAY = Option("anyway", None, None, False, "goes on although a run does not exit, or a point is never visited")
 
 STUDIED = [
@@ -93,9 +94,7 @@ STUDIED = [
     Option("speedups", "NUMBERS", numbers, [25, 50, 75, 95], "in per cent, with commas between (25,50,75,95)"),
     Option("functions", "N", count_or_none, 5, "the functions whose lines are profiled, by what they gain; 0 profiles none (5)"),
     Option("top", "N", count, 60, "the lines of the critical path that are profiled, by their share (60)"),
-    Option("schedules", "N", up_to(250), 8, "on how many schedules the best lines are tried; 1 is the one of coz profile (8)"),
-    Option("seed", "S", up_to(1_000_000_000), 1, "the seed of the first schedule; the others have the next ones (1)"),
-    Option("cores", "C", up_to(256), None, "the processors of the machine, if the program has more threads (those of this one)"),
+    SCHEDULES, SEED, CORES,
     Option("best", "N", count, 10, "how many lines are tried on all schedules, by what they gain on the first (10)"),
     Option("least", "PERCENT", per_cent, 0.1, "leaves out what has less of the cost and of the critical path (0.1)"),
     Option("source", "SRC", text, None,
@@ -185,9 +184,15 @@ what was gained really.
     Command("gate", "OLD NEW", "file", "fails if a build of a program is slower than another by more than a limit", """
 OLD and NEW are two builds of a program, compared as `coz-study diff` compares them. If a visit of a progress point, or without
 points the run, takes more than --limit per cent more time in NEW, it names the lines that take more and ends with status 1.
-With several points each of them counts. The numbers are exact, so nothing is run twice, and nothing fails by chance.
+With several points each of them counts.
+
+A program of one thread is run once, and its numbers are exact. Of one with threads the time is the mean over the schedules of
+the same seeds (coz-study --help says what these are), with two standard errors on both sides. If the limit lies in this
+interval, four times as many are tried. With --schedules 1 the time is that of the one schedule of coz run. The same builds
+have the same numbers every time, on every machine, so a gate that failed fails again; --cores says on how many processors, if
+the program has more threads than the machine. What the lines have of the change is that of the schedule of coz run.
 """ + f"{PAGES}/CI.md has recipes for make and for a runner.",
-            [*COMPARED, Option("limit", "PERCENT", per_cent, 1.0, "how much slower NEW may be (1)")]),
+            [*COMPARED, Option("limit", "PERCENT", per_cent, 1.0, "how much slower NEW may be (1)"), SCHEDULES, SEED, CORES, JOBS]),
     Command("export", "DIR", "folder", "prints all curves of a study as CSV or JSON", """
 DIR is where `coz-study PROG` keeps its study. Values and costs are in per cent, net times in ticks. A value says how much less
 net time a visit of the point takes; it is empty, or null, if nothing can be said. Of a line that was tried on several schedules
@@ -202,92 +207,8 @@ _coz-study into a folder of fpath.
 Without COMMAND it is the page of a study, with the list of commands.
 """, []),
 )}
-HELP, VERSIONS = {"--help", "-h"}, {"--version", "-V"}
-
-
-# ---- reading
-
-def called(command):
-    return "coz-study" if command.name == "study" else f"coz-study {command.name}"
 
 
 def nearest(word, known):
     found = difflib.get_close_matches(word, known, 1, 0.5)
     return found[0] if found else None
-
-
-def command_of(arguments):
-    """The command that the first word names, and the other words. Without such a word it is a study."""
-    if arguments and arguments[0] in COMMANDS:
-        return COMMANDS[arguments[0]], arguments[1:]
-    return COMMANDS["study"], arguments
-
-
-def read_option(command, word, value, rest):
-    """The option that a word names, and its value, or the list of its values. They are the next words, or one is given."""
-    option = command.options.get(word)
-    if option is None:
-        near = nearest(word, [*command.options, "help", "version"])
-        known = f"; do you mean --{near}?" if near else f"; {called(command)} --help lists them"
-        raise Wrong(f"--{word} is no option of {called(command)}{known}")
-    given = [] if value is None else [value]
-    if given and not option.values:
-        raise Wrong(f"--{word} has no value")
-    while len(given) < option.values:
-        if not rest or rest[0].startswith("--"):
-            raise Wrong(f"--{word} wants its {option.value}: {option.help}")
-        given.append(rest.pop(0))
-    values = [read_value(option, it) for it in given]
-    return option, values if option.values > 1 else values[0] if values else True
-
-
-def read_value(option, value):
-    try:
-        return option.read(value)
-    except ValueError as error:
-        raise Wrong(f"--{option.name} wants {error}, and '{value}' is not")
-
-
-def read(command, arguments):
-    """What the words ask of a command, by the names of its options and the name of its other word."""
-    asked = {it.name: it.default for it in command.options.values()}
-    rest, others, given = list(arguments), [], set()
-    while rest:
-        word = rest.pop(0)
-        if word == "--":
-            others += rest
-            break
-        if not word.startswith("-") or word == "-":
-            others.append(word)
-            continue
-        name, equals, value = word.partition("=")
-        if not name.startswith("--"):
-            raise Wrong(f"{word} is no option of {called(command)}: its options begin with two hyphens, and a path with ./")
-        option, asked_value = read_option(command, name[2:], value if equals else None, rest)
-        if option.name in given:
-            raise Wrong(f"{name} is given twice")
-        given.add(option.name)
-        asked[option.name] = asked_value
-    return with_others(command, others, asked)
-
-
-def too_much(command, others):
-    """What is said if there are more other words than a command takes."""
-    wants = command.wants.split()
-    near = nearest(others[0], COMMANDS) if command.name == "study" else None
-    means = f"; do you mean the command {near}?" if near else ""
-    words = "; a program gets its words by coz-args" if "PROG" in wants and not means else ""
-    wanted = f"one {wants[0]} is" if len(wants) == 1 else f"{' and '.join(wants)} are"
-    return f"{wanted} wanted, and '{others[len(wants)]}' is too much{means}{words}"
-
-
-def with_others(command, others, asked):
-    """All that is asked for: the options, and the other words by their names."""
-    wants = command.wants.split()
-    if len(others) > len(wants):
-        raise Wrong(too_much(command, others))
-    if len(others) < len(wants) and command.name != "help":
-        raise Wrong(f"{wants[len(others)]} is required; {called(command)} --help says more")
-    for k, it in enumerate(wants):
-        asked[{"PROG": "program"}.get(it, it.lower())] = others[k] if k < len(others) else None
-    return types.SimpleNamespace(**asked)
