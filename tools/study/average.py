@@ -31,6 +31,18 @@ def root(number):
     return math.isqrt(number.numerator // number.denominator)
 
 
+def summed(blocks):
+    """The base of some runs: the sums of their net times and of their visits."""
+    visits = [sum(them) for them in zip(*(it.visits for it in blocks))]
+    return Block(None, sum(it.net for it in blocks), None, None, None, visits)
+
+
+def spread(blocks, point):
+    """The variance of the value of a run against the base of all of them; None of fewer than two."""
+    base = summed(blocks)
+    return variance([value_of(base, it, point) for it in blocks])
+
+
 class Averages:
     """The averages of some profiles, point by point."""
 
@@ -42,21 +54,16 @@ class Averages:
         self.labels, self.points = list(first.lines), range(len(first.points))
         self.speedups = sorted(next(iter(first.lines.values())))
         blocks = [base_of(it) for it in self.used]
-        visits = [sum(it.visits[point] for it in blocks) for point in self.points]
-        self.base = Block(None, sum(it.net for it in blocks), None, None, None, visits)
-        self.spreads = [self.spread(blocks, point) for point in self.points]
-
-    def spread(self, blocks, point):
-        """The variance of the mean of the base; None of one run."""
-        found = variance([value_of(self.base, it, point) for it in blocks])
-        return None if found is None else found / len(blocks)
+        self.base = summed(blocks)
+        found = [spread(blocks, point) for point in self.points]
+        self.spreads = [None if it is None else it / len(blocks) for it in found]
 
     def error(self, values, point):
         """The standard error of the mean of some values against the base."""
-        spread = variance(values)
-        if spread is None or self.spreads[point] is None:
+        of_values = variance(values)
+        if of_values is None or self.spreads[point] is None:
             return None
-        return root(fractions.Fraction(spread) / len(values) + self.spreads[point])
+        return root(fractions.Fraction(of_values) / len(values) + self.spreads[point])
 
     def values(self, label, speedup, point):
         """The value of each schedule."""

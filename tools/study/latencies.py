@@ -45,8 +45,8 @@ def tell_latency(latency):
     stray = f", {base.stray} stray" if base.stray else ""
     still = f", {base.open} open" if base.open else ""
     mean = "absent" if base.mean is None else base.mean
-    say(f"latency of '{latency.pair.name}': {base.departures} of {base.arrivals} done{stray}{still}, mean {mean} ticks; "
-        "with a line faster:")
+    say(f"latency of '{latency.pair.name}': {base.departures} of {base.arrivals} done{stray}{still}, mean {mean} ticks, on the one "
+        "schedule of coz latency; with a line faster:")
     if base.mean:
         for label, steps in latency.lines.items():
             say("  " + ", ".join(shorter(latency, it) for it in steps[1:]) + f"  {readable(label)}")

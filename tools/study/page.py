@@ -66,13 +66,28 @@ class Table:
     def __init__(self, noun, rows, path, file, speedups, texts=None):
         self.noun, self.rows, self.path, self.file, self.speedups, self.texts = noun, rows, path, file, speedups, texts
 
-    def html(self):
+    def table(self, rows):
         names = (self.noun, "Mean gain", *(f"At {it}%" for it in self.speedups), "Cost", "Critical path")
         heads = "".join(f"<th>{it}</th>" for it in names)
-        rows = "\n".join(row_of(it, self.speedups, self.texts, self.path) for it in self.rows[:SHOWN])
-        return (f"<h2>{self.noun}s by what they gain</h2>\n"
-                f'<p><a href="{self.file}">The curves of the {self.noun.lower()}s</a></p>\n'
-                f"<table>\n<tr>{heads}</tr>\n{rows}\n</table>")
+        rows = "\n".join(row_of(it, self.speedups, self.texts, self.path) for it in rows)
+        return f"<table>\n<tr>{heads}</tr>\n{rows}\n</table>"
+
+    def others(self):
+        """The rows of several schedules that are no gains."""
+        known = [it for it in self.rows if it.error is not None]
+        harms, unknown = [it for it in known if it.is_harm()], [it for it in known if not it.is_gain() and not it.is_harm()]
+        told = [f"<h2>{self.noun}s that make the program slower where they are faster</h2>\n{self.table(harms)}"] if harms else []
+        if unknown:
+            names = ", ".join(html.escape(it.label) for it in unknown)
+            told.append(f"<p>The gain of these {self.noun.lower()}s cannot be told from 0: {names}.</p>")
+        return told
+
+    def html(self):
+        gains = [it for it in self.rows if it.error is None or it.is_gain()][:SHOWN]
+        told = [f"<h2>{self.noun}s by what they gain</h2>",
+                f'<p><a href="{self.file}">The curves of the {self.noun.lower()}s</a></p>']
+        told += [self.table(gains)] if gains else []
+        return "\n".join([*told, *self.others()])
 
 
 def page_of(program, paragraphs, tables, schedules):

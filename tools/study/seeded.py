@@ -5,9 +5,9 @@ import fractions
 import os
 import tempfile
 
-from study.average import root, variance
+from study.average import root, summed, variance
 from study.builds import both
-from study.curves import Block, Profile, base_of, value_of
+from study.curves import Profile, base_of, value_of
 from study.machine import Machine
 from study.places import call, write_whole
 
@@ -59,9 +59,7 @@ class Schedules:
 
     def change(self, what, point):
         olds, news = self.runs[self.comparison.old], self.runs[self.comparison.new]
-        visits = [sum(it.visits[k] for it in olds) for k in range(len(olds[0].visits))]
-        base = Block(None, sum(it.net for it in olds), None, None, None, visits)
-        sides = [[value_of(base, it, point) for it in them] for them in (olds, news)]
+        sides = [[value_of(summed(olds), it, point) for it in them] for them in (olds, news)]
         error = root(sum(variance(it) / len(it) for it in sides))
         times = [fractions.Fraction(sum(it.net for it in them), sum(it.visits[point] for it in them)) for them in (olds, news)]
         return Change(what, 100 * float(times[1] / times[0] - 1), error / 100)

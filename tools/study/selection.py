@@ -44,7 +44,9 @@ class Selection:
         self.functions = Functions(study) if study.functions else None
         if self.functions:
             self.functions.weights.tell_left_out("functions", self.functions.labels, study.least)
-        if study.machine.charges and self.weights.bare >= study.least:
+        if self.weights.bare < study.least:
+            study.machine.without_charges()
+        elif study.machine.charges:
             self.charge()
         self.weights.tell_left_out("lines", list(study.lines.entries), study.least)
         if self.functions:

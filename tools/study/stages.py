@@ -7,11 +7,11 @@ import collections
 import os
 
 from study.curves import ERRORS, Profile, rows_of
-from study.machine import MORE, OTHERS
+from study.machine import FINE, MORE, OTHERS
 from study.selection import Selection, finalists
 from study.shards import Part, Stage, planned_left, runs_of
-from study.told import Stop, several
-from study.tries import Tries, tried_runs
+from study.told import Stop, say, several
+from study.tries import Tries, spread_of, tried_runs
 
 # Beside those that gain most on the first schedule, so many of the dearest functions and lines are tried on all schedules, and
 # so many lines that hurt.
@@ -19,6 +19,8 @@ DEAR, HARMS = 4, 2
 DEAR_FUNCTIONS = 2
 # Lines whose error is over so many per cent are tried on more schedules, at most so many of them.
 COARSE, MOST_COARSE = 0.5, 10
+# How many runs are made may differ from how many were said by one part of so many.
+SLACK = 20
 # The best lines are tried at other costs, with some that could take their places, on so many schedules with such a base.
 BEST, RIVALS, SEEDS, BASE = 5, 3, 4, 8
 HALF = 50
@@ -36,6 +38,7 @@ class Course:
         self.functions, self.lines = None, None
         self.function_tries, self.line_tries, self.more = None, None, None
         self.best, self.others, self.lines_of_first = [], {}, 0
+        self.spread, self.said = 0.0, 0
         self.several = self.machine.schedules > 1
 
     def stages(self):
@@ -94,9 +97,9 @@ class Course:
                                              [it for it in self.selection.functions.labels if it in labels])
         return [it.label for it in self.selection.functions.best(rows)]
 
-    def tries(self, name, program, labels):
-        """Lines on all schedules, of which the first is there."""
-        seeds, more = self.machine.seeds(), self.machine.seeds(MORE)
+    def tries(self, name, program, labels, times=MORE):
+        """Lines on all schedules, of which the first is there, with a base of so many times as many."""
+        seeds, more = self.machine.seeds(), self.machine.seeds(times)
         kept = {seeds[0]: self.study.path(f"{name}.profile")}
         return Tries(self.study, name, program, labels, seeds, more[len(seeds):], kept)
 
@@ -118,17 +121,17 @@ class Course:
             self.functions = self.function_tries.average()
         rows = rows_of(Profile(self.study.path("lines.profile")))
         labels = self.study.in_order(finalists(rows, self.study.best, DEAR, HARMS))
-        self.line_tries = self.tries("lines", self.study.program, labels)
+        self.line_tries = self.tries("lines", self.study.program, labels, self.machine.times_for(self.spread))
         told = f"{several(len(self.line_tries.labels), 'line')} on all {self.machine.schedules} schedules"
         return Stage(self.study, "schedules", told, self.line_tries.parts())
 
     def last_stage(self):
         self.lines = self.line_tries.average()
         rows = rows_of(self.lines)
-        coarse = [it.label for it in rows if it.error is not None and it.error > COARSE][:MOST_COARSE]
-        coarse, seeds = self.study.in_order(coarse), self.machine.seeds()
-        self.more = Tries(self.study, "more", self.study.program, coarse, self.machine.seeds(MORE),
-                          kept={it: self.line_tries.path(it) for it in seeds})
+        coarse, more = self.study.in_order(self.coarse_of(rows)), self.machine.seeds(MORE)
+        base = [it for it in self.line_tries.base if it not in more]
+        self.more = Tries(self.study, "more", self.study.program, coarse, more, base,
+                          {it: self.line_tries.path(it) for it in [*self.line_tries.seeds, *base]})
         best = [it.label for it in rows if it.is_gain()][:BEST]
         rivals = [it.label for it in rows if it.label not in best][:BEST + RIVALS - len(best)] if best else []
         self.best = best
@@ -136,8 +139,25 @@ class Course:
         parts = [part for it in [self.more, *self.others.values()] for part in it.parts()]
         told = f"{several(len(best + rivals), 'line')} at other costs"
         if coarse:
-            told += f", and {several(len(coarse), 'line')} with an error over {COARSE:g} on {MORE * len(seeds)} schedules"
+            told += f", and {several(len(coarse), 'line')} with an error over {COARSE:g} on {len(more)} schedules"
         return Stage(self.study, "checks", told, parts)
+
+    def coarse_of(self, rows):
+        """The lines that are tried on more schedules: those whose error is too great. So that the runs in all are about as many as
+        was said, the last ones are left out, or those with the next greatest errors are among them."""
+        coarse = [it.label for it in rows if it.error is not None and it.error > COARSE]
+        expected, slack = self.expected_coarse(), self.said // SLACK // self.each_coarse()
+        if len(coarse) > expected + slack:
+            say(f"errors over {COARSE:g} are left of {several(len(coarse) - expected - slack, 'line')}: a greater --schedules lowers them")
+        by_error = sorted((it for it in rows if it.label not in coarse and it.error), key=lambda it: -it.error)
+        others = [it.label for it in by_error[:max(0, expected - slack - len(coarse))]]
+        return [*coarse[:expected + slack], *others]
+
+    def expected_coarse(self):
+        """How many lines are expected to have an error that is too great, of how much the runs without a faster line differ. The
+        values of a line at different speedups are no independent ones, so they count as half as many."""
+        values = self.machine.schedules * max(1, len(self.study.speedups) / 2)
+        return MOST_COARSE if self.spread ** 2 / values + FINE ** 2 > COARSE ** 2 else 0
 
     def at_costs(self, name, costs, labels):
         seeds = self.machine.seeds(MORE)
@@ -169,7 +189,17 @@ class Course:
             found.append(Verdict(label, stays, row is not None, row and row.mean, row and row.error))
         return found
 
+    def first_at(self, name):
+        """The line that gains most at other costs."""
+        return rows_of(self.others[name])[0]
+
     # ---- how many runs
+
+    def measure(self):
+        """Makes the runs of all schedules without a faster line, and says how much they differ."""
+        if self.several:
+            self.spread = spread_of(self.study)
+            say(f"a run takes {self.spread:.1f} per cent more or less time on other schedules (standard deviation)")
 
     def expected(self):
         """The runs of each stage after that of the functions, as they are expected before it, or as they are planned already."""
@@ -187,9 +217,12 @@ class Course:
             seeds = min(SEEDS, schedules)
             found["checks"] = len(OTHERS) * tried_runs(min(lines, BEST + RIVALS), self.few_speedups(), seeds,
                                                        len(self.machine.seeds(MORE)[seeds:BASE]))
+            found["checks"] += min(self.expected_coarse(), lines) * self.each_coarse()
+            found["schedules"] += (self.machine.times_for(self.spread) - MORE) * schedules
+        self.said = sum(found.values()) + (runs_of(len(self.selection.function_labels()), study.speedups))
         planned = {name: planned_left(study, name) for name in found}
         return {name: runs if planned[name] is None else planned[name] for name, runs in found.items()}
 
     def each_coarse(self):
         """The runs that a line takes whose error is too great."""
-        return (MORE - 1) * self.machine.schedules * (len(self.study.speedups) + 1)
+        return (MORE - 1) * self.machine.schedules * len(self.study.speedups)

@@ -170,21 +170,21 @@ class Story:
 
     def at_other_costs(self):
         """Whether the best lines stay the best ones where some instructions cost more."""
-        told = []
-        for name, what in COSTS.items():
-            verdicts = self.course.verdicts(name)
-            fail = [it for it in verdicts if not it.stays]
-            if not verdicts:
-                continue
-            best = "The line that gains most does so" if len(verdicts) == 1 else f"The {len(verdicts)} lines that gain most do so"
-            if not fail:
-                told.append(f"{best} too {what}.")
-                continue
-            lines = [f"{it.label} gains {it.mean:.1f} per cent in the mean{interval(it.mean, it.error)}" if it.known else
-                     f"nothing is known of {it.label}" for it in fail]
-            told.append(f"{what[0].upper()}{what[1:]}, {' and '.join(lines)}, and {'are' if len(fail) > 1 else 'is'} not one of the "
-                        f"best lines. {'The others are still.' if len(fail) < len(verdicts) else ''}".rstrip())
+        told = [self.at_costs(what, self.course.verdicts(name), name) for name, what in COSTS.items() if self.course.verdicts(name)]
         return [" ".join(told)] if told else []
+
+    def at_costs(self, what, verdicts, name):
+        fail = [it for it in verdicts if not it.stays]
+        row = self.course.first_at(name)
+        first = f", but there {self.name(row)} gains most: {row.mean:.1f} per cent in the mean{interval(row.mean, row.error)}" \
+            if row.label != verdicts[0].label else ""
+        best = "The line that gains most does so" if len(verdicts) == 1 else f"The {len(verdicts)} lines that gain most do so"
+        if not fail:
+            return f"{best} too {what}{first}."
+        lines = [f"{it.label} gains {it.mean:.1f} per cent in the mean{interval(it.mean, it.error)}" if it.known else
+                 f"nothing is known of {it.label}" for it in fail]
+        others = f" The others are still{first}." if len(fail) < len(verdicts) else ""
+        return f"{what[0].upper()}{what[1:]}, {' and '.join(lines)}, and {'are' if len(fail) > 1 else 'is'} not one of the best lines.{others}"
 
     def latency(self, latency):
         """How long a request takes, and with which line least."""

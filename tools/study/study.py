@@ -121,13 +121,12 @@ def one_run(study, seconds):
 
 def tell_all(study, stage, seconds):
     """Says beforehand how many runs all stages make, and how long they take at most."""
+    seconds = one_run(study, seconds)
+    study.course.measure()
     expected = study.course.expected()
     left = stage.runs_left() + sum(runs for name, runs in expected.items() if name != stage.name)
-    if not left:
-        return
-    more = f"; {study.course.each_coarse()} more for each line whose gain is then not known well" if study.course.several else ""
-    say(f"about {several(left, 'run')} are left, at most {span(left * one_run(study, seconds) / study.jobs)} "
-        f"with {study.jobs} at a time{more}")
+    if left:
+        say(f"about {several(left, 'run')} are left, at most {span(left * seconds / study.jobs)} with {study.jobs} at a time")
 
 
 def tell_stage(stage):
@@ -151,8 +150,8 @@ def stages(study):
         raise Stop(f"{study.program} has no functions in its symbol table: do not strip it, or profile lines alone, with --functions 0")
     study.machine = Machine(study, study.asked, study.first.harts)
     study.open()
-    say(f"  tried on {study.machine.told()}")
     study.course = Course(study)
+    say(f"lines are tried on {study.machine.told()}")
     for number, stage in enumerate(study.course.stages()):
         if not number:
             tell_all(study, stage, seconds)

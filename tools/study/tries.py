@@ -1,9 +1,11 @@
 """Lines on several schedules: their profiles, which the stages of a study make, and the average of these."""
+import concurrent.futures
 import os
 
-from study.average import Average, averaged
-from study.curves import Profile
-from study.places import write_whole
+from study.average import Average, averaged, spread
+from study.curves import Profile, base_of
+from study.machine import MORE
+from study.places import call, write_whole
 from study.shards import SHARDS, Part, runs_of
 
 
@@ -22,6 +24,21 @@ def only(text, labels):
     head, *blocks = text.split("\nexperiment\t")
     kept = [it for it in blocks if it.partition("\t")[0].removeprefix("selected=") in labels]
     return "\nexperiment\t".join([head, *(it.removesuffix("\n") for it in kept)]) + "\n"
+
+
+def spread_of(study):
+    """The standard deviation of a run without a faster line on the schedules of a study and more, in per cent. Of several points
+    it is the greatest."""
+    def made(seed):
+        path = study.path(f"base.seed{seed}.profile")
+        if not os.path.exists(path):
+            words = [*study.machine.words(study.program, seed), "--progress", ",".join(study.points)]
+            write_whole(path, call([*words, "--lines", study.points[0], "--speedups", "0", "--workers", "1"]))
+        return base_of(Profile(path))
+    with concurrent.futures.ThreadPoolExecutor(study.jobs) as pool:
+        blocks = list(pool.map(made, study.machine.seeds(MORE)))
+    found = [spread(blocks, point) for point in range(len(study.points))]
+    return max((float(it) ** 0.5 / 100 for it in found if it is not None), default=0.0)
 
 
 class Tries:
@@ -44,10 +61,10 @@ class Tries:
 
     def parts(self):
         """The profiles that are to be made."""
-        seeds = [it for it in self.seeds if it not in self.kept]
+        seeds, base = ([it for it in them if it not in self.kept] for them in (self.seeds, self.base))
         if not self.labels:
             return []
-        return [*(self.part(it, self.speedups, shards_of(len(seeds))) for it in seeds), *(self.part(it, []) for it in self.base)]
+        return [*(self.part(it, self.speedups, shards_of(len(seeds))) for it in seeds), *(self.part(it, []) for it in base)]
 
     def average(self):
         """The average of the profiles, which are all there; it is kept as a file."""

@@ -123,10 +123,11 @@ files whose visits fill the run most evenly; `coz-study points PROG` lists the o
 
 A schedule is the order in which threads meet. Each of the --schedules has a seed, by which some instructions take twice as
 long (coz-gain). Steps 3 and 4 are of the first seed. The functions and lines that gain most there, the dearest, and the lines
-that hurt most are tried on all schedules. A gain is the mean of these, against the mean of four times as many runs as they are.
-It is printed with two standard errors on both sides. If this interval holds 0, the line is not listed as a gain. Lines whose
-error is over 0.5 per cent are tried on four times as many schedules. Time in code without lines is counted as that of the line
-that called it. If the program has more threads than --cores, threads wait for processors.
+that hurt most are tried on all schedules. A gain is the mean of these, against the mean of at least four times as many runs
+without a faster line. It is printed with two standard errors on both sides. If this interval holds 0, the line is not listed as
+a gain. Lines whose error is over 0.5 per cent are tried on four times as many schedules, about as many of them as was said
+beforehand. Time in code without lines is counted as that of the line that called it. If the program has more threads than
+--cores, threads wait for processors.
 
 A program of one thread has one schedule. With --schedules 1 it is that of coz profile: its numbers are exact, they have no
 intervals, and code without lines is nobody's.
