@@ -9,6 +9,8 @@ from study.told import several
 # base is over so many per cent, it has more, at most so many times as many.
 MORE, MOST = 4, 16
 FINE = 0.2
+# An average is of so many profiles at most.
+MOST_PROFILES = 1_000
 # Machines on which the best lines are tried too, by their names: an instruction of a class costs so many cycles.
 OTHERS = {"atomic": "atomic=100", "ecall": "ecall=1000"}
 COSTS = {"atomic": "where an atomic instruction costs 100 cycles", "ecall": "where a system call costs 1,000 cycles"}
@@ -42,7 +44,7 @@ class Machine:
 
     def times_for(self, spread):
         """How many times as many schedules the base of the lines has, of the standard deviation of a run in per cent."""
-        return max(MORE, min(MOST, math.ceil((spread / FINE) ** 2 / self.schedules)))
+        return max(MORE, min(MOST, MOST_PROFILES // self.schedules, math.ceil((spread / FINE) ** 2 / self.schedules)))
 
     def words(self, program, seed, costs=None):
         """The command that profiles a program on one schedule."""
