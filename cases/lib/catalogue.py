@@ -1,0 +1,109 @@
+"""The cases: which program, what is selected in it, what the change is, and on which machine."""
+import os
+from collections import namedtuple
+
+CASES = os.path.realpath(f"{os.path.dirname(os.path.realpath(__file__))}/..")
+OUT = f"{CASES}/out"
+SRC = f"{OUT}/src"
+
+# A region as coz-functions takes it, and the line that it is.
+Region = namedtuple("Region", "text line")
+
+
+class Lines:
+    """The lines of a file from the one that has a text to the one before the next that has another."""
+
+    def __init__(self, file, first, after=""):
+        self.file, self.first, self.after = file, first, after
+
+    def region(self, sources):
+        """Returns the region of these lines in the source that has the file's name."""
+        path = next(it for it in sources if os.path.basename(it) == self.file)
+        with open(path, encoding="utf-8", errors="replace") as file:
+            rows = file.read().split("\n")
+        start = next(at for at, row in enumerate(rows, 1) if self.first in row)
+        end = next(at for at, row in enumerate(rows[start:], start) if self.after in row)
+        return Region(f"{self.file}:{start}-{end}", f"{self.file}:{start}")
+
+
+class Program:
+    """A program in two variants: the sources of each, its progress point as a file and a text, and the files that it reads."""
+
+    def __init__(self, name, before, after, point, files=()):
+        self.name, self.before, self.after, self.point, self.files = name, before, after, point, files
+
+
+class Case:
+    """A question: a program with its words, what is selected in it, and the options of coz-gain.
+
+    `selected` has Lines, or names of functions; the predictions of several are added. `charged` names functions that count for
+    the lines that call them. If the change is another number of threads, `after` is the words with it, and `part` the cost
+    after over the cost before. `native` is the words for the host.
+    """
+
+    def __init__(self, name, program, words, about, selected, options=(), charged=(), after=None, part=None, native=None, quick=False):
+        self.name, self.program, self.words, self.about, self.selected = name, program, words, about, selected
+        self.options, self.charged, self.after, self.part = options, charged, after or words, part
+        self.native, self.quick = native, quick
+
+
+def model(name, point):
+    """Returns the program of a model, whose variants have one source."""
+    source = f"{CASES}/models/{name}.c"
+    return Program(name, [source], [source], (f"{name}.c", point))
+
+
+def sqlite(name, after):
+    """Returns a program that inserts rows by SQLite, with the folder of the changed source."""
+    insert = f"{CASES}/programs/insert.c"
+    return Program(name, [insert, f"{SRC}/sqlite3/sqlite3.c"], [insert, f"{SRC}/{after}/sqlite3.c"], ("insert.c", "*count += 1"))
+
+
+DEDUP = model("dedup", "total += n")
+FERRET = model("ferret", "total += n")
+BARRIER = model("barrier", "*n += 1")
+MEMCACHED = model("memcached", "*count += 1")
+BLACKSCHOLES = model("blackscholes", "*count += 1")
+JSON_FILES = [f"{CASES}/programs/json.c", f"{SRC}/cjson/cJSON.c"]
+JSON = Program("json", JSON_FILES, [JSON_FILES[0], f"{SRC}/cjson-after/cJSON.c"], ("json.c", "*sum += n"),
+               (f"data.json={CASES}/programs/data.json",))
+
+LOOKUP = [Lines("dedup.c", "static uint32_t hash", "static int is_new")]
+RANK = [Lines("ferret.c", "static uint32_t rank", "static uint32_t (*const stages")]
+WAIT = [Lines("barrier.c", "#ifdef FIXED", "static uint32_t cluster")]
+REFERENCES = [Lines("memcached.c", "static uint32_t hash", "__attribute__")]
+NORMAL = [Lines("blackscholes.c", "static double normal", "__attribute__")]
+NUMBER = [Lines("cJSON.c", "static cJSON_bool print_number", "/* parse the input text into an unescaped")]
+CALLS = ["sqlite3_mutex_leave", "sqlite3MallocSize", "sqlite3PcacheFetch"]
+CALLED = ("pthreadMutexLeave", "sqlite3MemSize", "pcache1Fetch")
+ALLOCATE = ["sqlite3Malloc", "sqlite3_free"]
+MUTEXES = ("sqlite3_mutex_enter", "sqlite3_mutex_leave", "pthreadMutexEnter", "pthreadMutexLeave")
+FOUR_CORES = ("--cores", "4")
+ECALL = ("--costs", "ecall=1000")
+BUSY = (*FOUR_CORES, *ECALL)
+POOLS, MOVED = (60, 2, 2, 2, 2), (60, 2, 1, 2, 3)
+
+MODELS = [
+    Case("dedup, 1 thread", DEDUP, (1, 500), "hash and find", LOOKUP, native=(1, 6000), quick=True),
+    Case("dedup, 3 threads", DEDUP, (3, 500), "hash and find", LOOKUP, native=(3, 6000)),
+    Case("dedup, 8 threads", DEDUP, (8, 500), "hash and find", LOOKUP, native=(8, 6000)),
+    Case("ferret, a thread more ranks", FERRET, POOLS, "rank", RANK, after=MOVED, part=2 / 3),
+    Case("the same, 4 cores", FERRET, POOLS, "rank", RANK, FOUR_CORES, after=MOVED, part=2 / 3),
+    Case("ferret, half the ranking, 4 cores", FERRET, POOLS, "rank", RANK, FOUR_CORES, native=(3000, 2, 2, 2, 2)),
+    Case("barrier, 4 threads", BARRIER, (4, 40), "the barrier", WAIT, ECALL, native=(4, 3000), quick=True),
+    Case("barrier, 8 threads", BARRIER, (8, 40), "the barrier", WAIT, ECALL),
+    Case("barrier, 16 threads", BARRIER, (16, 40), "the barrier", WAIT, ECALL),
+    Case("barrier, 8 threads, 4 cores", BARRIER, (8, 40), "the barrier", WAIT, BUSY, native=(8, 3000)),
+    Case("barrier, 16 threads, 4 cores", BARRIER, (16, 40), "the barrier", WAIT, BUSY, native=(16, 1500)),
+    Case("memcached, 4 threads", MEMCACHED, (4, 300, 4), "the count of references", REFERENCES, native=(4, 100000, 4)),
+    Case("memcached, 8 threads", MEMCACHED, (8, 150, 4), "the count of references", REFERENCES, native=(8, 50000, 4)),
+    Case("blackscholes", BLACKSCHOLES, (4, 40), "normal", NORMAL, native=(4, 100000), quick=True),
+]
+PROGRAMS = [
+    Case("cJSON, whole numbers by %d", JSON, (1, "data.json"), "print_number", NUMBER, native=(200, f"{CASES}/programs/data.json")),
+    Case("SQLite, three calls direct, 4 threads", sqlite("calls", "sqlite3-after"), (4, 20), "the functions that call", CALLS, (), CALLED,
+         native=(4, 40000)),
+    Case("SQLite, no statistics, 4 threads", sqlite("statistics", "sqlite3"), (4, 20), "sqlite3Malloc, sqlite3_free", ALLOCATE, (), MUTEXES,
+         native=(4, 40000)),
+    Case("the same, 4 cores, dear calls", sqlite("statistics", "sqlite3"), (4, 20), "sqlite3Malloc, sqlite3_free", ALLOCATE, BUSY, MUTEXES),
+]
