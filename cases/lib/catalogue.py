@@ -11,26 +11,37 @@ Region = namedtuple("Region", "text line")
 
 
 class Lines:
-    """The lines of a file from the one that has a text to the one before the next that has another."""
+    """The lines of a file from the one that has a text to the one before the next that has another, or to the next brace alone."""
 
-    def __init__(self, file, first, after=""):
+    def __init__(self, file, first, after=None):
         self.file, self.first, self.after = file, first, after
 
-    def region(self, sources):
-        """Returns the region of these lines in the source that has the file's name."""
-        path = next(it for it in sources if os.path.basename(it) == self.file)
+    def region(self, program, variant):
+        """Returns the region of these lines in the variant's source that has the file's name."""
+        path = next(it for it in program.sources[variant] if os.path.basename(it) == self.file)
         with open(path, encoding="utf-8", errors="replace") as file:
             rows = file.read().split("\n")
-        start = next(at for at, row in enumerate(rows, 1) if self.first in row)
-        end = next(at for at, row in enumerate(rows[start:], start) if self.after in row)
+        start = next(at for at, row in enumerate(rows, 1) if self.first in f"{row}\n")
+        end = next(at for at, row in enumerate(rows[start:], start) if (self.after in row if self.after else row == "}"))
         return Region(f"{self.file}:{start}-{end}", f"{self.file}:{start}")
 
 
+class Whole:
+    """All lines of a file of the C library, which is another one after the change."""
+
+    def __init__(self, before, after):
+        self.files = {"before": before, "after": after}
+
+    def region(self, _, variant):
+        """Returns the region of the variant's file."""
+        return Region(f"{self.files[variant]}:1-9999", f"{self.files[variant]}:1")
+
+
 class Program:
-    """A program in two variants: the sources of each, its progress point as a file and a text, and the files that it reads."""
+    """A program in two variants: the sources of each, its progress point, and the files that it reads."""
 
     def __init__(self, name, before, after, point, files=()):
-        self.name, self.before, self.after, self.point, self.files = name, before, after, point, files
+        self.name, self.sources, self.point, self.files = name, {"before": before, "after": after}, point, files
 
 
 class Case:
@@ -50,13 +61,13 @@ class Case:
 def model(name, point):
     """Returns the program of a model, whose variants have one source."""
     source = f"{CASES}/models/{name}.c"
-    return Program(name, [source], [source], (f"{name}.c", point))
+    return Program(name, [source], [source], Lines(f"{name}.c", point))
 
 
 def sqlite(name, after):
     """Returns a program that inserts rows by SQLite, with the folder of the changed source."""
     insert = f"{CASES}/programs/insert.c"
-    return Program(name, [insert, f"{SRC}/sqlite3/sqlite3.c"], [insert, f"{SRC}/{after}/sqlite3.c"], ("insert.c", "*count += 1"))
+    return Program(name, [insert, f"{SRC}/sqlite3/sqlite3.c"], [insert, f"{SRC}/{after}/sqlite3.c"], Lines("insert.c", "*count += 1"))
 
 
 DEDUP = model("dedup", "total += n")
@@ -65,18 +76,21 @@ BARRIER = model("barrier", "*n += 1")
 MEMCACHED = model("memcached", "*count += 1")
 BLACKSCHOLES = model("blackscholes", "*count += 1")
 JSON_FILES = [f"{CASES}/programs/json.c", f"{SRC}/cjson/cJSON.c"]
-JSON = Program("json", JSON_FILES, [JSON_FILES[0], f"{SRC}/cjson-after/cJSON.c"], ("json.c", "*sum += n"),
+JSON = Program("json", JSON_FILES, [JSON_FILES[0], f"{SRC}/cjson-after/cJSON.c"], Lines("json.c", "*sum += n"),
                (f"data.json={CASES}/programs/data.json",))
 
 LOOKUP = [Lines("dedup.c", "static uint32_t hash", "static int is_new")]
 RANK = [Lines("ferret.c", "static uint32_t rank", "static uint32_t (*const stages")]
 WAIT = [Lines("barrier.c", "#ifdef FIXED", "static uint32_t cluster")]
-REFERENCES = [Lines("memcached.c", "static uint32_t hash", "__attribute__")]
+REFERENCES = [Lines("memcached.c", "static item *get", "__attribute__")]
 NORMAL = [Lines("blackscholes.c", "static double normal", "__attribute__")]
-NUMBER = [Lines("cJSON.c", "static cJSON_bool print_number", "/* parse the input text into an unescaped")]
-CALLS = ["sqlite3_mutex_leave", "sqlite3MallocSize", "sqlite3PcacheFetch"]
-CALLED = ("pthreadMutexLeave", "sqlite3MemSize", "pcache1Fetch")
-ALLOCATE = ["sqlite3Malloc", "sqlite3_free"]
+NUMBER = [Lines("cJSON.c", "static cJSON_bool compare_double", "/* parse 4 digit")]
+CALLS = [Lines("sqlite3.c", it) for it in (
+    "SQLITE_API void sqlite3_mutex_leave(sqlite3_mutex *p){", "static void pthreadMutexLeave(sqlite3_mutex *p){",
+    "SQLITE_PRIVATE int sqlite3MallocSize(const void *p){", "static int sqlite3MemSize(void *pPrior){",
+    "SQLITE_PRIVATE sqlite3_pcache_page *sqlite3PcacheFetch(\n", "static sqlite3_pcache_page *pcache1Fetch(\n")]
+ALLOCATE = [Lines("sqlite3.c", "static void mallocWithAlarm(int n, void **pp){", "SQLITE_PRIVATE void *sqlite3DbMallocZero")]
+ALLOCATOR = [Whole("src/malloc/oldmalloc/malloc.c", "src/malloc/arenas.c")]
 MUTEXES = ("sqlite3_mutex_enter", "sqlite3_mutex_leave", "pthreadMutexEnter", "pthreadMutexLeave")
 FOUR_CORES = ("--cores", "4")
 ECALL = ("--costs", "ecall=1000")
@@ -87,6 +101,7 @@ MODELS = [
     Case("dedup, 1 thread", DEDUP, (1, 500), "hash and find", LOOKUP, native=(1, 6000), quick=True),
     Case("dedup, 3 threads", DEDUP, (3, 500), "hash and find", LOOKUP, native=(3, 6000)),
     Case("dedup, 8 threads", DEDUP, (8, 500), "hash and find", LOOKUP, native=(8, 6000)),
+    Case("dedup, 8 threads, 4 cores", DEDUP, (8, 500), "hash and find", LOOKUP, FOUR_CORES),
     Case("ferret, a thread more ranks", FERRET, POOLS, "rank", RANK, after=MOVED, part=2 / 3),
     Case("the same, 4 cores", FERRET, POOLS, "rank", RANK, FOUR_CORES, after=MOVED, part=2 / 3),
     Case("ferret, half the ranking, 4 cores", FERRET, POOLS, "rank", RANK, FOUR_CORES, native=(3000, 2, 2, 2, 2)),
@@ -95,15 +110,16 @@ MODELS = [
     Case("barrier, 16 threads", BARRIER, (16, 40), "the barrier", WAIT, ECALL),
     Case("barrier, 8 threads, 4 cores", BARRIER, (8, 40), "the barrier", WAIT, BUSY, native=(8, 3000)),
     Case("barrier, 16 threads, 4 cores", BARRIER, (16, 40), "the barrier", WAIT, BUSY, native=(16, 1500)),
-    Case("memcached, 4 threads", MEMCACHED, (4, 300, 4), "the count of references", REFERENCES, native=(4, 100000, 4)),
-    Case("memcached, 8 threads", MEMCACHED, (8, 150, 4), "the count of references", REFERENCES, native=(8, 50000, 4)),
+    Case("memcached, 4 threads", MEMCACHED, (4, 300, 4), "get, removed", REFERENCES, (), ("hash",), native=(4, 100000, 4)),
+    Case("memcached, 8 threads", MEMCACHED, (8, 150, 4), "get, removed", REFERENCES, (), ("hash",), native=(8, 50000, 4)),
     Case("blackscholes", BLACKSCHOLES, (4, 40), "normal", NORMAL, native=(4, 100000), quick=True),
 ]
 PROGRAMS = [
-    Case("cJSON, whole numbers by %d", JSON, (1, "data.json"), "print_number", NUMBER, native=(200, f"{CASES}/programs/data.json")),
-    Case("SQLite, three calls direct, 4 threads", sqlite("calls", "sqlite3-after"), (4, 20), "the functions that call", CALLS, (), CALLED,
+    Case("cJSON, whole numbers by %d", JSON, (1, "data.json"), "print_number, compare_double", NUMBER, native=(200, f"{CASES}/programs/data.json")),
+    Case("SQLite, three calls direct, 4 threads", sqlite("calls", "sqlite3-after"), (4, 20), "six functions of these calls", CALLS,
          native=(4, 40000)),
-    Case("SQLite, no statistics, 4 threads", sqlite("statistics", "sqlite3"), (4, 20), "sqlite3Malloc, sqlite3_free", ALLOCATE, (), MUTEXES,
+    Case("SQLite, no statistics, 4 threads", sqlite("statistics", "sqlite3"), (4, 20), "allocation in SQLite", ALLOCATE, (), MUTEXES,
          native=(4, 40000)),
-    Case("the same, 4 cores, dear calls", sqlite("statistics", "sqlite3"), (4, 20), "sqlite3Malloc, sqlite3_free", ALLOCATE, BUSY, MUTEXES),
+    Case("the same, 4 cores, dear calls", sqlite("statistics", "sqlite3"), (4, 20), "allocation in SQLite", ALLOCATE, BUSY, MUTEXES),
+    Case("SQLite, another allocator, 4 threads", sqlite("allocator", "sqlite3"), (4, 20), "the allocator", ALLOCATOR, (), ("__wait",)),
 ]

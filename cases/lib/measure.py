@@ -12,9 +12,8 @@ class Variant:
 
     def __init__(self, case, name, words):
         program = case.program
-        sources = getattr(program, name)
-        regions = [it.region(sources) for it in case.selected if not isinstance(it, str)]
-        self.point = catalogue.Lines(*program.point).region(sources).line
+        regions = [it.region(program, name) for it in case.selected if not isinstance(it, str)]
+        self.point = program.point.region(program, name).line
         os.makedirs(f"{catalogue.OUT}/run", exist_ok=True)
         to = f"{catalogue.OUT}/run/{program.name}.{name}.{os.getpid()}"
         kept = program.name + (".before" if case.part else f".{name}")
