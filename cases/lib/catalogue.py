@@ -78,6 +78,8 @@ BLACKSCHOLES = model("blackscholes", "*count += 1")
 JSON_FILES = [f"{CASES}/programs/json.c", f"{SRC}/cjson/cJSON.c"]
 JSON = Program("json", JSON_FILES, [JSON_FILES[0], f"{SRC}/cjson-after/cJSON.c"], Lines("json.c", "*sum += n"),
                (f"data.json={CASES}/programs/data.json",))
+DEFLATE_FILES = [f"{CASES}/programs/deflater.c", f"{SRC}/zlib/deflate.c"]
+DEFLATER = Program("deflater", DEFLATE_FILES, DEFLATE_FILES, Lines("deflater.c", "*sum += n"))
 
 LOOKUP = [Lines("dedup.c", "static uint32_t hash", "static int is_new")]
 RANK = [Lines("ferret.c", "static uint32_t rank", "static uint32_t (*const stages")]
@@ -85,11 +87,12 @@ WAIT = [Lines("barrier.c", "#ifdef FIXED", "static uint32_t cluster")]
 REFERENCES = [Lines("memcached.c", "static item *get", "__attribute__")]
 NORMAL = [Lines("blackscholes.c", "static double normal", "__attribute__")]
 NUMBER = [Lines("cJSON.c", "static cJSON_bool compare_double", "/* parse 4 digit")]
+MATCH = [Lines("deflate.c", "local uInt longest_match(s, cur_match)")]
 CALLS = [Lines("sqlite3.c", it) for it in (
     "SQLITE_API void sqlite3_mutex_leave(sqlite3_mutex *p){", "static void pthreadMutexLeave(sqlite3_mutex *p){",
-    "SQLITE_PRIVATE int sqlite3MallocSize(const void *p){", "static int sqlite3MemSize(void *pPrior){",
+    "SQLITE_PRIVATE int sqlite3MallocSize(const void *p){", "static int sqlite3MemSize(void *pPrior){\n",
     "SQLITE_PRIVATE sqlite3_pcache_page *sqlite3PcacheFetch(\n", "static sqlite3_pcache_page *pcache1Fetch(\n")]
-ALLOCATE = [Lines("sqlite3.c", "static void mallocWithAlarm(int n, void **pp){", "SQLITE_PRIVATE void *sqlite3DbMallocZero")]
+ALLOCATE = ["sqlite3Malloc", "sqlite3_free"]
 ALLOCATOR = [Whole("src/malloc/oldmalloc/malloc.c", "src/malloc/arenas.c")]
 MUTEXES = ("sqlite3_mutex_enter", "sqlite3_mutex_leave", "pthreadMutexEnter", "pthreadMutexLeave")
 FOUR_CORES = ("--cores", "4")
@@ -101,7 +104,6 @@ MODELS = [
     Case("dedup, 1 thread", DEDUP, (1, 500), "hash and find", LOOKUP, native=(1, 6000), quick=True),
     Case("dedup, 3 threads", DEDUP, (3, 500), "hash and find", LOOKUP, native=(3, 6000)),
     Case("dedup, 8 threads", DEDUP, (8, 500), "hash and find", LOOKUP, native=(8, 6000)),
-    Case("dedup, 8 threads, 4 cores", DEDUP, (8, 500), "hash and find", LOOKUP, FOUR_CORES),
     Case("ferret, a thread more ranks", FERRET, POOLS, "rank", RANK, after=MOVED, part=2 / 3),
     Case("the same, 4 cores", FERRET, POOLS, "rank", RANK, FOUR_CORES, after=MOVED, part=2 / 3),
     Case("ferret, half the ranking, 4 cores", FERRET, POOLS, "rank", RANK, FOUR_CORES, native=(3000, 2, 2, 2, 2)),
@@ -116,10 +118,11 @@ MODELS = [
 ]
 PROGRAMS = [
     Case("cJSON, whole numbers by %d", JSON, (1, "data.json"), "print_number, compare_double", NUMBER, native=(200, f"{CASES}/programs/data.json")),
+    Case("zlib, two bytes at a time, 2 threads", DEFLATER, (2, 16384, 6), "longest_match", MATCH, native=(4, 4000000, 6)),
     Case("SQLite, three calls direct, 4 threads", sqlite("calls", "sqlite3-after"), (4, 20), "six functions of these calls", CALLS,
          native=(4, 40000)),
-    Case("SQLite, no statistics, 4 threads", sqlite("statistics", "sqlite3"), (4, 20), "allocation in SQLite", ALLOCATE, (), MUTEXES,
+    Case("SQLite, no statistics, 4 threads", sqlite("statistics", "sqlite3"), (4, 20), "sqlite3Malloc, sqlite3_free", ALLOCATE, (), MUTEXES,
          native=(4, 40000)),
-    Case("the same, 4 cores, dear calls", sqlite("statistics", "sqlite3"), (4, 20), "allocation in SQLite", ALLOCATE, BUSY, MUTEXES),
+    Case("the same, 4 cores, dear calls", sqlite("statistics", "sqlite3"), (4, 20), "sqlite3Malloc, sqlite3_free", ALLOCATE, BUSY, MUTEXES),
     Case("SQLite, another allocator, 4 threads", sqlite("allocator", "sqlite3"), (4, 20), "the allocator", ALLOCATOR, (), ("__wait",)),
 ]
