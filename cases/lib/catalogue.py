@@ -11,7 +11,10 @@ Region = namedtuple("Region", "text line")
 
 
 class Lines:
-    """The lines of a file from the one that has a text to the one before the next that has another, or to the next brace alone."""
+    """The lines of a file from the one that has a text to the one before the next that has another.
+
+    Without another text they go to the next row that is a closing brace.
+    """
 
     def __init__(self, file, first, after=None):
         self.file, self.first, self.after = file, first, after
@@ -22,7 +25,10 @@ class Lines:
         with open(path, encoding="utf-8", errors="replace") as file:
             rows = file.read().split("\n")
         start = next(at for at, row in enumerate(rows, 1) if self.first in f"{row}\n")
-        end = next(at for at, row in enumerate(rows[start:], start) if (self.after in row if self.after else row == "}"))
+        if self.after:
+            end = next(at for at, row in enumerate(rows[start:], start) if self.after in row)
+        else:
+            end = next(at for at, row in enumerate(rows[start:], start + 1) if row == "}")
         return Region(f"{self.file}:{start}-{end}", f"{self.file}:{start}")
 
 
@@ -48,14 +54,16 @@ class Case:
     """A question: a program with its words, what is selected in it, and the options of coz-gain.
 
     `selected` has Lines, or names of functions; the predictions of several are added. `charged` names functions that count for
-    the lines that call them. If the change is another number of threads, `after` is the words with it, and `part` the cost
-    after over the cost before. `native` is the words for the host.
+    the lines that call them, and `shown` functions of libraries that are selected. If the change is another number of
+    threads, `after` is the words with it, and `part` the cost after over the cost before; if it is a variable in the
+    environment, `environment` has it. `native` is the words for the host.
     """
 
-    def __init__(self, name, program, words, about, selected, options=(), charged=(), after=None, part=None, native=None, quick=False):
+    def __init__(self, name, program, words, about, selected, options=(), charged=(), after=None, part=None, native=None, quick=False,
+                 shown=(), environment=()):
         self.name, self.program, self.words, self.about, self.selected = name, program, words, about, selected
         self.options, self.charged, self.after, self.part = options, charged, after or words, part
-        self.native, self.quick = native, quick
+        self.native, self.quick, self.shown, self.environment = native, quick, shown, environment
 
 
 def model(name, point):
@@ -80,6 +88,8 @@ JSON = Program("json", JSON_FILES, [JSON_FILES[0], f"{SRC}/cjson-after/cJSON.c"]
                (f"data.json={CASES}/programs/data.json",))
 DEFLATE_FILES = [f"{CASES}/programs/deflater.c", f"{SRC}/zlib/deflate.c"]
 DEFLATER = Program("deflater", DEFLATE_FILES, DEFLATE_FILES, Lines("deflater.c", "*sum += n"))
+MALLOC_THREADS = [f"{CASES}/../guests/programs/malloc-threads.c"]
+BLOCKS = Program("blocks", MALLOC_THREADS, MALLOC_THREADS, Lines("malloc-threads.c", "free(block);"))
 
 LOOKUP = [Lines("dedup.c", "static uint32_t hash", "static int is_new")]
 RANK = [Lines("ferret.c", "static uint32_t rank", "static uint32_t (*const stages")]
@@ -104,6 +114,7 @@ MODELS = [
     Case("dedup, 1 thread", DEDUP, (1, 500), "hash and find", LOOKUP, native=(1, 6000), quick=True),
     Case("dedup, 3 threads", DEDUP, (3, 500), "hash and find", LOOKUP, native=(3, 6000)),
     Case("dedup, 8 threads", DEDUP, (8, 500), "hash and find", LOOKUP, native=(8, 6000)),
+    Case("dedup, 8 threads, one lock", DEDUP, (8, 500, 1), "hash and find", LOOKUP),
     Case("ferret, a thread more ranks", FERRET, POOLS, "rank", RANK, after=MOVED, part=2 / 3),
     Case("the same, 4 cores", FERRET, POOLS, "rank", RANK, FOUR_CORES, after=MOVED, part=2 / 3),
     Case("ferret, half the ranking, 4 cores", FERRET, POOLS, "rank", RANK, FOUR_CORES, native=(3000, 2, 2, 2, 2)),
@@ -117,7 +128,10 @@ MODELS = [
     Case("blackscholes", BLACKSCHOLES, (4, 40), "normal", NORMAL, native=(4, 100000), quick=True),
 ]
 PROGRAMS = [
-    Case("cJSON, whole numbers by %d", JSON, (1, "data.json"), "print_number, compare_double", NUMBER, native=(200, f"{CASES}/programs/data.json")),
+    Case("cJSON, whole numbers by %d", JSON, (1, "data.json"), "print_number, compare_double", NUMBER,
+         native=(200, f"{CASES}/programs/data.json")),
+    Case("malloc-threads, two arenas", BLOCKS, (4, 10), "eset_init of jemalloc", ["eset_init"],
+         shown=("eset_init",), environment=("MALLOC_CONF=narenas:2",)),
     Case("zlib, two bytes at a time, 2 threads", DEFLATER, (2, 16384, 6), "longest_match", MATCH, native=(4, 4000000, 6)),
     Case("SQLite, three calls direct, 4 threads", sqlite("calls", "sqlite3-after"), (4, 20), "six functions of these calls", CALLS,
          native=(4, 40000)),

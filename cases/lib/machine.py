@@ -50,8 +50,8 @@ def functions(image):
                 yield at, bytes(image[start:image.index(0, start)]).decode(), struct.unpack_from("<Q", image, at + 8)[0]
 
 
-def hide(program, charged, to):
-    """Writes the program without the symbols of functions that have no lines or are named in `charged`.
+def hide(program, charged, shown, to):
+    """Writes the program without the symbols of functions that are named in `charged`, or have no lines and aren't in `shown`.
 
     So coz-functions gives these no lines, and --charge last counts them for the line that called them.
     """
@@ -59,29 +59,38 @@ def hide(program, charged, to):
     with open(program, "rb") as file:
         image = bytearray(file.read())
     for at, name, address in list(functions(image)):
-        if address not in starts or name in charged:
+        if name in charged or address not in starts and name not in shown:
             image[at + 4] &= ~TYPE
     return write(to, bytes(image))
+
+
+def has_lines(program, region):
+    """Whether a program has code of a region, PATH:FROM-TO."""
+    path, _, ends = region.rpartition(":")
+    first, last = map(int, ends.split("-"))
+    labels = re.findall(r"^(.*):(\d+)\t", call(f"{BUILD}/coz", "lines", program).decode(), re.MULTILINE)
+    return any((it == path or it.endswith(f"/{path}")) and first <= int(number) <= last for it, number in labels)
 
 
 def line_of(program, function):
     """Returns the line that a function is in a program of coz-functions."""
     for label in call(f"{BUILD}/coz", "lines", program).decode().split("\n"):
-        if re.search(rf"/{re.escape(function)}:\d+\t", label):
+        if re.search(rf"(^|/){re.escape(function)}:\d+\t", label):
             return label.partition("\t")[0]
     raise Failure(f"{program} has no function {function}")
 
 
-def prepare(program, to, point, regions, charged):
-    """Writes the program with its functions, and each region, as one line. What has no lines is for its callers."""
-    own = hide(program, charged, f"{to}.own")
+def prepare(program, to, point, regions, hidden):
+    """Writes the program with its functions, and each region, as one line. `hidden` is what `hide` takes, two tuples."""
+    own = hide(program, *hidden, f"{to}.own")
     words = ["--keep", point] + (["--regions", ",".join(regions)] if regions else [])
     return write(to, call(f"{BUILD}/coz-functions", own, *words))
 
 
-def start(program, words, files):
-    """Gives the program its words and files, NAME=PATH."""
-    return write(program, call(f"{TOP}/guests/coz-args", *[it for file in files for it in ("--file", file)], program, *map(str, words)))
+def start(program, words, files, environment):
+    """Gives the program its words, its files as NAME=PATH, and its environment as NAME=VALUE."""
+    given = [it for file in files for it in ("--file", file)] + [it for pair in environment for it in ("--env", pair)]
+    return write(program, call(f"{TOP}/guests/coz-args", *given, program, *map(str, words)))
 
 
 class Run:

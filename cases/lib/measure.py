@@ -8,7 +8,10 @@ SLACK = 100  # A hundred hundredths are one point.
 
 
 class Variant:
-    """A program of a case, before or after the change: its file, its progress point, and its selected lines."""
+    """A program of a case, before or after the change: its file, its progress point, and its selected lines.
+
+    A line is None if the program has no code of the selected lines.
+    """
 
     def __init__(self, case, name, words):
         program = case.program
@@ -16,11 +19,12 @@ class Variant:
         self.point = program.point.region(program, name).line
         os.makedirs(f"{catalogue.OUT}/run", exist_ok=True)
         to = f"{catalogue.OUT}/run/{program.name}.{name}.{os.getpid()}"
-        kept = program.name + (".before" if case.part else f".{name}")
-        self.file = machine.prepare(f"{catalogue.OUT}/{kept}", to, self.point, [it.text for it in regions], case.charged)
-        names = iter(it.line for it in regions)
+        kept = f"{catalogue.OUT}/{program.name}." + ("before" if case.part or case.environment else name)
+        there = {it.text for it in regions if machine.has_lines(kept, it.text)}
+        self.file = machine.prepare(kept, to, self.point, [it.text for it in regions if it.text in there], (case.charged, case.shown))
+        names = iter(it.line if it.text in there else None for it in regions)
         self.lines = [machine.line_of(to, it) if isinstance(it, str) else next(names) for it in case.selected]
-        machine.start(to, words, program.files)
+        machine.start(to, words, program.files, case.environment if name == "after" else ())
 
 
 class Row:
@@ -65,12 +69,14 @@ def measure(case, seeds, jobs):
     many = machine.Machine(case.options, seeds, jobs)
     parts, speedups, predicted, base = [], [], [], []
     for old, new in zip(before.lines, after.lines):
-        part = case.part or many.cost(after.file, new, after.point) / many.cost(before.file, old, before.point)
+        left = many.cost(after.file, new, after.point) if new and not case.part else 0
+        part = case.part or left / many.cost(before.file, old, before.point)
         speedup = speedup_of(part)
         runs = many.runs(before.file, old, before.point, sorted({0, speedup}))
         base = [it[0].pair() for it in runs]
         parts.append(part)
         speedups.append(speedup)
         predicted.append(average.estimate([it[speedup].pair() for it in runs], base))
-    changed = [it[0].pair() for it in many.runs(after.file, after.lines[0], after.point, [0])]
+    any_line = next(filter(None, after.lines))
+    changed = [it[0].pair() for it in many.runs(after.file, any_line, after.point, [0])]
     return Row(case, parts, speedups, average.total(predicted), average.estimate(changed, base))

@@ -1,6 +1,6 @@
 /* A model of PARSEC's dedup: threads take chunks, compute their digests, and look each up in a hash table whose hash adds
  * the bytes of the digest, so that few buckets are used. A chunk that is new is compressed; another thread writes all of
- * them. -DFIXED hashes by exclusive or. dedup THREADS CHUNKS */
+ * them. -DFIXED hashes by exclusive or. dedup THREADS CHUNKS LOCKS */
 #include <pthread.h>
 #include <stdint.h>
 #include <stdio.h>
@@ -20,7 +20,7 @@ static item *table[BUCKETS];
 static pthread_mutex_t locks[LOCKS];
 static pthread_mutex_t taking = PTHREAD_MUTEX_INITIALIZER, out_lock = PTHREAD_MUTEX_INITIALIZER;
 static pthread_cond_t out_filled = PTHREAD_COND_INITIALIZER;
-static int chunks = 500, taken, threads = 3, ready;
+static int stripes = LOCKS, chunks = 500, taken, threads = 3, ready;
 static uint32_t total;
 
 static void digest(uint32_t n, uint32_t key[DIGEST]) {
@@ -55,7 +55,7 @@ static item *find(uint32_t bucket, const uint32_t key[DIGEST]) {
 
 static int is_new(const uint32_t key[DIGEST]) {
     uint32_t bucket = hash(key);
-    pthread_mutex_lock(&locks[bucket % LOCKS]);
+    pthread_mutex_lock(&locks[bucket % stripes]);
     item *at = find(bucket, key);
     if (!at) {
         item *made = malloc(sizeof *made);
@@ -63,7 +63,7 @@ static int is_new(const uint32_t key[DIGEST]) {
         made->next = table[bucket];
         table[bucket] = made;
     }
-    pthread_mutex_unlock(&locks[bucket % LOCKS]);
+    pthread_mutex_unlock(&locks[bucket % stripes]);
     return !at;
 }
 
@@ -99,6 +99,7 @@ static void *work(void *none) {
 int main(int words, char **word) {
     if (words > 1) threads = atoi(word[1]);
     if (words > 2) chunks = atoi(word[2]);
+    if (words > 3) stripes = atoi(word[3]);
     pthread_t made[16];
     for (int i = 0; i < LOCKS; i++) pthread_mutex_init(&locks[i], 0);
     for (int i = 0; i < threads; i++) pthread_create(&made[i], 0, work, 0);
