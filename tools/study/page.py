@@ -5,13 +5,14 @@ import urllib.parse
 
 from study.curves import margin
 from study.names import readable
+from study.pictures import Axis, picture_of
 
 SHOWN = 20
 LONGEST = 120
 STYLE = """
 :root { color-scheme: light dark; --ink: #1d2125; --paper: #fff; --faint: #c8ced6; --link: #0a5fbf; }
 @media (prefers-color-scheme: dark) { :root { --ink: #e4e7ea; --paper: #17191c; --faint: #454c55; --link: #74b7ff; } }
-body { margin: 1rem auto; max-width: 64rem; padding: 0 .75rem; background: var(--paper); color: var(--ink); font: 1rem/1.45 system-ui, sans-serif; }
+body { margin: 1rem auto; max-width: 72rem; padding: 0 .75rem; background: var(--paper); color: var(--ink); font: 1rem/1.45 system-ui, sans-serif; }
 h1 { font-size: 1.35rem; }
 h2 { font-size: 1.1rem; }
 p, td { overflow-wrap: anywhere; }
@@ -19,6 +20,11 @@ table { border-collapse: collapse; width: 100%; }
 th, td { border-bottom: 1px solid var(--faint); padding: .2rem 0; text-align: left; }
 th + th, td + td { padding-left: 1rem; text-align: right; white-space: nowrap; font-variant-numeric: tabular-nums; }
 a { color: var(--link); }
+svg { display: inline-block; vertical-align: middle; }
+polyline { fill: none; stroke: var(--link); stroke-width: 1.5; }
+polyline.zero { stroke: var(--faint); stroke-width: 1; }
+polygon { fill: var(--link); fill-opacity: .2; }
+.wide { overflow-x: auto; }
 """
 
 
@@ -51,13 +57,13 @@ def number(value, error):
     return f"{value:.2f}%" + (f" &plusmn; {margin(error):.2f}" if error is not None else "")
 
 
-def row_of(row, speedups, texts, path):
+def row_of(row, speedups, texts, path, axis):
     text = texts.of(row.label) if texts else ""
     name = html.escape(row.label) + (f"<br><code>{html.escape(text)}</code>" if text else "")
     steps = {it.speedup: (it.value / 100, None if it.error is None else it.error / 100) for it in row.steps}
     numbers = [(row.mean, row.error), *(steps.get(it, (None, None)) for it in speedups), (row.cost, None),
                (path.get(row.label, 0), None)]
-    return "<tr>" + "".join(map(cell, [name, *(number(*it) for it in numbers)])) + "</tr>"
+    return "<tr>" + "".join(map(cell, [name, *(number(*it) for it in numbers), picture_of(row, axis)])) + "</tr>"
 
 
 class Table:
@@ -67,10 +73,10 @@ class Table:
         self.noun, self.rows, self.path, self.file, self.speedups, self.texts = noun, rows, path, file, speedups, texts
 
     def table(self, rows):
-        names = (self.noun, "Mean gain", *(f"At {it}%" for it in self.speedups), "Cost", "Critical path")
-        heads = "".join(f"<th>{it}</th>" for it in names)
-        rows = "\n".join(row_of(it, self.speedups, self.texts, self.path) for it in rows)
-        return f"<table>\n<tr>{heads}</tr>\n{rows}\n</table>"
+        names = (self.noun, "Mean gain", *(f"At {it}%" for it in self.speedups), "Cost", "Critical path", "0 to 100%")
+        heads, axis = "".join(f"<th>{it}</th>" for it in names), Axis(rows)
+        rows = "\n".join(row_of(it, self.speedups, self.texts, self.path, axis) for it in rows)
+        return f'<div class="wide">\n<table>\n<tr>{heads}</tr>\n{rows}\n</table>\n</div>'
 
     def others(self):
         """The rows of several schedules that are no gains."""
@@ -107,8 +113,8 @@ def page_of(program, paragraphs, tables, schedules):
 <h1>What to make faster in {name}</h1>
 {told}
 {shown}
-<p>Gains are those of {schedules}; &plusmn; is two standard errors. The mean gain is that of all speedups. Gains, costs and shares
-are in per cent of the net time; the cost is that of all threads together.</p>
+<p>Gains are those of {schedules}; &plusmn; is two standard errors. The mean gain is that of all speedups. The
+pictures of a table have one axis of values; their bands are the intervals. Gains, costs and shares are in per cent of the net time; the cost is that of all threads together.</p>
 </body>
 </html>
 """
