@@ -4,7 +4,7 @@ import fractions
 import os
 
 from study.books import Book
-from study.curves import Profile
+from study.curves import Profile, margin
 from study.names import readable
 from study.told import Stop, say
 
@@ -42,14 +42,16 @@ def changed(olds, news):
 
 
 def predicted(steps, less):
-    """The value of a curve where a line costs `less` per cent less, in per cent: between the two speedups beside it."""
-    known = [(it.speedup, it.value / 100) for it in steps if it.value is not None]
+    """The value of a curve where a line costs `less` per cent less, in per cent, between the two speedups beside it, and half of
+    its interval, which is the greater one of theirs; None if the curve has no value, or is of one schedule."""
+    known = [(it.speedup, it.value / 100, None if it.error is None else margin(it.error) / 100) for it in steps if it.value is not None]
     below = max((it for it in known if it[0] <= less), default=None)
     above = min((it for it in known if it[0] > less), default=below)
     if below is None:
-        return None
+        return None, None
     part = (less - below[0]) / (above[0] - below[0]) if above != below else 0
-    return below[1] + part * (above[1] - below[1])
+    halves = [it[2] for it in (below, above)]
+    return below[1] + part * (above[1] - below[1]), None if None in halves else max(halves)
 
 
 def steps_of(comparison, profile, place, point):
@@ -71,8 +73,10 @@ def of_place(comparison, profile, place, point, costs):
         return f"{place} costs {100 * (new / old - 1):.1f} per cent more: a profile predicts only what less cost gains"
     less = 100 * (1 - new / old)
     steps, why = steps_of(comparison, profile, place, point)
-    value = predicted(steps, less) if steps else None
-    told = why or "the profile says nothing of this point" if value is None else f"by the profile this gains {value:.2f} per cent"
+    value, half = predicted(steps, less) if steps else (None, None)
+    interval = "" if half is None else f" ({value - half:.2f} to {value + half:.2f})"
+    told = why or "the profile says nothing of this point" if value is None else \
+        f"by the profile this gains {value:.2f} per cent{interval}"
     return f"{place} costs {less:.1f} per cent less: {told}"
 
 

@@ -114,7 +114,8 @@ def page_of(program, paragraphs, tables, schedules):
 {told}
 {shown}
 <p>Gains are those of {schedules}; &plusmn; is two standard errors. The mean gain is that of all speedups. The
-pictures of a table have one axis of values; their bands are the intervals. Gains, costs and shares are in per cent of the net time; the cost is that of all threads together.</p>
+pictures of a table have one axis of values; their bands are the intervals. Gains, costs and shares are in per cent of the net
+time; the cost is that of all threads together.</p>
 </body>
 </html>
 """

@@ -11,7 +11,8 @@ from study.told import say, several
 # A file that is half has a name of its machine and process, and is removed at the end, unless the shell is killed.
 KEEP = ('f=$1 p=$1.$(uname -n).$$.half; shift; [ -e "$f" ] || { trap "rm -f \\"\\$p\\"" EXIT; trap "exit 1" HUP INT TERM; '
         '"$@" > "$p" || [ $? = 1 ] && mv -f "$p" "$f"; }')
-PLAN_AGAIN, TELL = "when they are done, plan again by the same words", "when they are done, the same words without plan tell what they found"
+PLAN_AGAIN = "when they are done, plan again by the same words"
+TELL = "when they are done, the same words without plan tell what they found"
 
 
 def kept(file, words):

@@ -184,7 +184,8 @@ class Story:
         lines = [f"{it.label} gains {it.mean:.1f} per cent in the mean{interval(it.mean, it.error)}" if it.known else
                  f"nothing is known of {it.label}" for it in fail]
         others = f" The others are still{first}." if len(fail) < len(verdicts) else ""
-        return f"{what[0].upper()}{what[1:]}, {' and '.join(lines)}, and {'are' if len(fail) > 1 else 'is'} not one of the best lines.{others}"
+        those = "are" if len(fail) > 1 else "is"
+        return f"{what[0].upper()}{what[1:]}, {' and '.join(lines)}, and {those} not one of the best lines.{others}"
 
     def latency(self, latency):
         """How long a request takes, and with which line least."""
