@@ -116,7 +116,7 @@ MODELS = [
     Case("dedup, 8 threads", DEDUP, (8, 500), "hash and find", LOOKUP, native=(8, 6000)),
     Case("dedup, 8 threads, one lock", DEDUP, (8, 500, 1), "hash and find", LOOKUP),
     Case("ferret, a thread more ranks", FERRET, POOLS, "rank", RANK, after=MOVED, part=2 / 3),
-    Case("the same, 4 cores", FERRET, POOLS, "rank", RANK, FOUR_CORES, after=MOVED, part=2 / 3),
+    Case("ferret, a thread more, 4 cores", FERRET, POOLS, "rank", RANK, FOUR_CORES, after=MOVED, part=2 / 3),
     Case("ferret, half the ranking, 4 cores", FERRET, POOLS, "rank", RANK, FOUR_CORES, native=(3000, 2, 2, 2, 2)),
     Case("barrier, 4 threads", BARRIER, (4, 40), "the barrier", WAIT, ECALL, native=(4, 3000), quick=True),
     Case("barrier, 8 threads", BARRIER, (8, 40), "the barrier", WAIT, ECALL),
@@ -137,6 +137,6 @@ PROGRAMS = [
          native=(4, 40000)),
     Case("SQLite, no statistics, 4 threads", sqlite("statistics", "sqlite3"), (4, 20), "sqlite3Malloc, sqlite3_free", ALLOCATE, (), MUTEXES,
          native=(4, 40000)),
-    Case("the same, 4 cores, dear calls", sqlite("statistics", "sqlite3"), (4, 20), "sqlite3Malloc, sqlite3_free", ALLOCATE, BUSY, MUTEXES),
+    Case("SQLite, no statistics, 4 cores, dear calls", sqlite("statistics", "sqlite3"), (4, 20), "sqlite3Malloc, sqlite3_free", ALLOCATE, BUSY, MUTEXES),
     Case("SQLite, another allocator, 4 threads", sqlite("allocator", "sqlite3"), (4, 20), "the allocator", ALLOCATOR, (), ("__wait",)),
 ]
