@@ -1,0 +1,20 @@
+use Rattle.std.proofs.Common.{arith, length}
+use Rattle.average_values.proofs.Bounds.{some_scale, scale_fits, squares_small}
+use Rattle.average_values.proofs.error.variance_of.Goals as goal
+
+pub returns : goal.returns
+returns c =
+    let p = c.args.parts in
+    let k = length c.args.values.now in
+    let two = c.if-values-lt2.false in (
+      two,
+      record {
+        squares = c.spread.ensures.spread;
+        scale = c.scale.ensures;
+        bounded = record {
+          some = omega (arith, c.scale.ensures, some_scale p k c.requires.some two);
+          scale = omega (arith, c.scale.ensures, scale_fits p k c.requires.parts c.requires.few);
+          squares = omega (arith, c.scale.ensures, squares_small p k _ c.requires.some two c.spread.ensures.small);
+        };
+      },
+    )
