@@ -1,13 +1,11 @@
 -- Values of runs against a common base, their mean, and its standard error. Values are in
 -- hundredths of a per cent.
-use Rattle.std.specs.Prelude.{◌≡◌, ℕ, ◌+◌, ◌-◌, ◌*◌, ◌/◌, ◌<◌, ◌≤◌, Bool, ◌||◌, ◌&&◌, ◌==◌, nat_lt, List, length, Option, Some, None, ℤ, pos, ◌+ℤ◌, ◌-ℤ◌, ◌*ℤ◌, if◌then◌else◌, fold}
+use Rattle.std.specs.Prelude.{ℕ, ◌+◌, ◌-◌, ◌*◌, ◌/◌, ◌<◌, ◌≤◌, Bool, ◌||◌, ◌&&◌, ◌==◌, nat_lt, List, length, Option, Some, None, ℤ, pos, ◌+ℤ◌, ◌-ℤ◌, ◌*ℤ◌, if◌then◌else◌, fold}
 use Rattle.std.specs.List.{sum_by}
 use Rattle.std.specs.Int.{int_div_euclid}
 use Rattle.std.specs.Int.RustNames.{unsigned_abs}
 use Rattle.coz_types.specs.declared.TheConstants.{MAX_NUMBER, MAX_COUNT}
 use Rattle.wide_numbers.specs.Root.{root}
-use Rattle.wide_numbers.specs.Wide.{number}
-use Rattle.average_values.specs.declared.error.Variance.{Variance}
 use Rattle.average_values.specs.declared.pace.Pace.{Pace}
 
 -- ---- a run
@@ -48,12 +46,20 @@ spread values =
 abbrev pub scale : ℕ → ℕ → ℕ
 scale parts count = parts * parts * (count * count * count) * (count - 1)
 
--- the root of the sum of the variances of two means, rounded down; absent for fewer than two values
-abbrev pub error : ℕ → List ℤ → List ℤ → Option ℕ
-error parts values base =
-    if nat_lt (length values) 2 || nat_lt (length base) 2 then None
-    else Some (root ((spread values * scale 1 (length base) + spread base * scale parts (length values))
-    / (scale parts (length values) * scale 1 (length base))))
+-- the variance of a mean: squares over scale
+pub record Spread : Type 0 where
+  pub squares : ℕ
+  pub scale : ℕ
+
+-- of the mean of values, each a sum of so many parts; absent for fewer than two values
+abbrev pub variance : ℕ → List ℤ → Option Spread
+variance parts values =
+    if nat_lt (length values) 2 then None
+    else Some (record { squares = spread values; scale = scale parts (length values) })
+
+-- the root of the sum of two variances, rounded down
+abbrev pub error_from : Spread → Spread → ℕ
+error_from a b = root ((a.squares * b.scale + b.squares * a.scale) / (a.scale * b.scale))
 
 -- ---- a line
 
@@ -113,19 +119,7 @@ pub record IsSum (v : ℤ) : Type 0 where
   pub small : unsigned_abs v ≤ most_sum
 
 -- small enough for the root of a sum of two
-pub record IsBounded (v : Variance) : Type 0 where
+pub record IsBounded (v : Spread) : Type 0 where
   pub some : 0 < v.scale
   pub scale : v.scale ≤ most_parts * most_parts * (most_runs * most_runs * most_runs) * most_runs
-  pub squares : number v.squares ≤ 4 * (most_sum * most_sum) * v.scale
-
--- ---- variances as the code has them
-
-pub record IsVarianceOf (parts : ℕ) (values : List ℤ) (v : Variance) : Type 0 where
-  pub squares : number v.squares ≡ spread values
-  pub scale : v.scale ≡ scale parts (length values)
-  pub bounded : IsBounded v
-
--- the root of the sum of two variances, rounded down
-abbrev pub error_from : Variance → Variance → ℕ
-error_from a b =
-    root ((number a.squares * b.scale + number b.squares * a.scale) / (a.scale * b.scale))
+  pub squares : v.squares ≤ 4 * (most_sum * most_sum) * v.scale

@@ -1,16 +1,25 @@
 //! The standard error of a mean.
-ghost use Rattle.std.specs.Prelude.{◌≡◌, ◌<◌, ◌≤◌, ◌*◌, ◌^◌, All, length, MatchOption};
-ghost use Rattle.average_values.specs.Values.{scale, IsSum, IsVarianceOf, IsBounded, error_from, most_runs, most_parts};
+ghost use Rattle.std.specs.Prelude.{◌≡◌, ◌<◌, ◌≤◌, ◌*◌, ◌^◌, All, length};
+ghost use Rattle.average_values.specs.Values.{scale, IsSum, Spread, IsBounded, variance, error_from, most_runs, most_parts};
 ghost use Rattle.wide_numbers.specs.Wide.{number};
 
 use crate::spread::spread;
+use std::marker::Model;
 use wide_numbers::{Wide, root_of_quotient};
 
 /// The variance of a mean: squares over scale.
-#[derive(Clone, Copy)]
+#[derive(Drop)]
 pub struct Variance {
     squares: Wide,
     scale: u128,
+}
+
+impl Model for Variance {
+    ghost Value = { Spread };
+
+    ghost view = { λ v. record { squares = number v.squares; scale = v.scale } };
+
+    ghost invariant = { λ v. IsBounded (record { squares = number v.squares; scale = v.scale }) };
 }
 
 /// What the variance of a mean of sums of this many parts is over, if it is of this many values.
@@ -30,8 +39,7 @@ pub fn variance_of(parts: u64, values: &[i128]) -> Option<Variance>
     requires parts { parts ≤ most_parts }
     requires few { length values.now ≤ most_runs }
     requires small { All IsSum values.now }
-    ensures { MatchOption result (length values.now < 2)
-        (λ variance. (2 ≤ length values.now) × IsVarianceOf parts values.now variance) }
+    ensures { result ≡ variance parts values.now }
 {
     if values.len() < 2 {
         return None;
@@ -44,8 +52,6 @@ pub fn variance_of(parts: u64, values: &[i128]) -> Option<Variance>
 
 /// The root of the sum of two variances, rounded down.
 pub fn error_of(variance: &Variance, base: &Variance) -> u128
-    requires variance { IsBounded variance.now }
-    requires base { IsBounded base.now }
     ensures error { result ≡ error_from variance.now base.now }
     ensures small { result < 2 ^ 126 }
 {
