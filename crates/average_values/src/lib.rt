@@ -11,4 +11,4 @@ mod sums;
 pub use error::{Variance, error_of, variance_of};
 pub use pace::{Pace, value};
 pub use shares::{cost, differ};
-pub use sums::mean;
+pub use sums::{mean, total};
