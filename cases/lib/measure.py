@@ -26,6 +26,11 @@ class Variant:
         self.lines = [machine.line_of(to, it) if isinstance(it, str) else next(names) for it in case.selected]
         machine.start(to, words, program.files, case.environment if name == "after" else ())
 
+    def remove(self):
+        """Removes the files that were made of the program."""
+        for made in (self.file, f"{self.file}.own"):
+            os.remove(made)
+
 
 class Row:
     """What came of a case: cost after over before and speedup of each selection, and the two estimates."""
@@ -79,4 +84,6 @@ def measure(case, seeds, jobs):
         predicted.append(average.estimate([it[speedup].pair() for it in runs], base))
     any_line = next(filter(None, after.lines))
     changed = [it[0].pair() for it in many.runs(after.file, any_line, after.point, [0])]
+    before.remove()
+    after.remove()
     return Row(case, parts, speedups, average.total(predicted), average.estimate(changed, base))
