@@ -1,6 +1,8 @@
 -- Where the elements of each line stand in a list of blocks or of curves.
 use Rattle.std.specs.Prelude.{◌≡◌, ℕ, ◌+◌, ◌<◌, List, [], ◌∷◌, map, drop, length, get_or, Option, Some, None, if◌then◌else◌}
-use Rattle.std.specs.HashMap.{get_by}
+use Rattle.std.specs.BTreeMap.{get_by}
+use Rattle.std.specs.Cmp.Lexicographic.{slice_cmp}
+use Rattle.std.specs.Ordering.{nat_cmp}
 use Rattle.std.specs.Str.{bytes_eq}
 use denote.Ref.{Bor}
 use Rattle.coz_types.specs.Labels.{Text}
@@ -31,7 +33,7 @@ abbrev pub place_from : List Text → Text → ℕ → Option ℕ
 place_from labels label place = place_in label place (drop place labels)
 
 abbrev pub first_of : LinePlaces → Text → Option ℕ
-first_of p label = get_by (λ k. bytes_eq label k.now) p.first
+first_of p label = get_by (λ k. slice_cmp nat_cmp label k.now) p.first
 
 abbrev pub after_of : LinePlaces → ℕ → Option ℕ
 after_of p place = get_or p.after.items place None

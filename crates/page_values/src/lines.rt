@@ -5,13 +5,13 @@ ghost use Rattle.page_values.specs.Lines.{ArePlaces, after_of, block_labels, cur
 use causal_curves::Curve;
 use coz_types::Summary;
 use std::alloc::{AllocError, Global};
-use std::collections::HashMap;
+use std::collections::BTreeMap;
 
 /// Where the elements of each line stand in a list, each of which has the label of one line.
 #[derive(Drop)]
 pub struct LinePlaces<'a> {
     /// The first place of each label.
-    first: HashMap<&'a [u8], usize>,
+    first: BTreeMap<&'a [u8], usize>,
     /// For each place, the next one with the same label.
     after: Vec<Option<usize>>,
 }
@@ -21,7 +21,7 @@ impl<'a> LinePlaces<'a> {
     pub fn of(alloc: Global, labels: &[&'a [u8]]) -> Result<LinePlaces<'a>, AllocError>
         ensures { IfOk result (ArePlaces (texts labels.now)) }
     {
-        let mut first = HashMap::new(alloc);
+        let mut first = BTreeMap::new(alloc);
         let mut after = vec![in alloc; None; labels.len()]?;
         for place in (0..labels.len()).rev() {
             let next = first.insert(labels[place], place)?;
