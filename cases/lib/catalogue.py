@@ -83,11 +83,20 @@ FERRET = model("ferret", "total += n")
 BARRIER = model("barrier", "*n += 1")
 MEMCACHED = model("memcached", "*count += 1")
 BLACKSCHOLES = model("blackscholes", "*count += 1")
+SWAPTIONS = model("swaptions", "*count += 1")
 JSON_FILES = [f"{CASES}/programs/json.c", f"{SRC}/cjson/cJSON.c"]
 JSON = Program("json", JSON_FILES, [JSON_FILES[0], f"{SRC}/cjson-after/cJSON.c"], Lines("json.c", "*sum += n"),
                (f"data.json={CASES}/programs/data.json",))
 DEFLATE_FILES = [f"{CASES}/programs/deflater.c", f"{SRC}/zlib/deflate.c"]
 DEFLATER = Program("deflater", DEFLATE_FILES, DEFLATE_FILES, Lines("deflater.c", "*sum += n"))
+PIGZ = Program("pigz", [f"{SRC}/pigz/pigz.c", f"{SRC}/zlib/deflate.c"], [f"{SRC}/pigz/pigz.c", f"{SRC}/zlib-after/deflate.c"],
+               Lines("pigz.c", "*prior = job;"), (f"text={OUT}/text",))
+GZIP = Program("gzip", [f"{SRC}/gzip/zip.c", f"{SRC}/gzip/util.c"], [f"{SRC}/gzip-after/zip.c", f"{SRC}/gzip-after/util.c"],
+               Lines("zip.c", "updcrc ((uch *) buf, len);"), (f"text={OUT}/text",))
+HASH_FILES = [f"{SRC}/xxhash/cli/xxhsum.c", f"{SRC}/xxhash/xxhash.h"]
+HASH = Program("xxhsum", HASH_FILES, HASH_FILES, Lines("xxhsum.c", "(void)XXH64_update(&state64"), (f"text={OUT}/text",))
+LZ4_FILES = [f"{SRC}/lz4/programs/lz4io.c", f"{SRC}/lz4/lib/lz4.c"]
+LZ4 = Program("lz4", LZ4_FILES, LZ4_FILES, Lines("lz4io.c", "size_t const outSize = LZ4F_compressUpdate(ctx"), (f"text={OUT}/text",))
 MALLOC_THREADS = [f"{CASES}/../guests/programs/malloc-threads.c"]
 BLOCKS = Program("blocks", MALLOC_THREADS, MALLOC_THREADS, Lines("malloc-threads.c", "free(block);"))
 
@@ -96,8 +105,12 @@ RANK = [Lines("ferret.c", "static uint32_t rank", "static uint32_t (*const stage
 WAIT = [Lines("barrier.c", "#ifdef FIXED", "static uint32_t cluster")]
 REFERENCES = [Lines("memcached.c", "static item *get", "__attribute__")]
 NORMAL = [Lines("blackscholes.c", "static double normal", "__attribute__")]
+LOOPS = [Lines("swaptions.c", "#ifdef FIXED", "#endif")]
 NUMBER = [Lines("cJSON.c", "static cJSON_bool compare_double", "/* parse 4 digit")]
 MATCH = [Lines("deflate.c", "local uInt longest_match(s, cur_match)")]
+CHECK = [Lines("util.c", "ulg updcrc(s, n)")]
+HASH_LOOP = ["XXH64_update"]
+LZ4_LOOP = ["LZ4_compress_fast_extState_fastReset"]
 CALLS = [Lines("sqlite3.c", it) for it in (
     "SQLITE_API void sqlite3_mutex_leave(sqlite3_mutex *p){", "static void pthreadMutexLeave(sqlite3_mutex *p){",
     "SQLITE_PRIVATE int sqlite3MallocSize(const void *p){", "static int sqlite3MemSize(void *pPrior){\n",
@@ -126,12 +139,18 @@ MODELS = [
     Case("memcached, 4 threads", MEMCACHED, (4, 300, 4), "get, removed", REFERENCES, (), ("hash",), native=(4, 100000, 4)),
     Case("memcached, 8 threads", MEMCACHED, (8, 150, 4), "get, removed", REFERENCES, (), ("hash",), native=(8, 50000, 4)),
     Case("blackscholes", BLACKSCHOLES, (4, 40), "normal", NORMAL, native=(4, 100000), quick=True),
+    Case("swaptions, rows for columns", SWAPTIONS, (4, 8, 60, 60), "the loops over the matrix", LOOPS, native=(4, 64, 1000, 1000)),
 ]
 PROGRAMS = [
     Case("cJSON, whole numbers by %d", JSON, (1, "data.json"), "print_number, compare_double", NUMBER,
          native=(200, f"{CASES}/programs/data.json")),
     Case("malloc-threads, two arenas", BLOCKS, (4, 10), "eset_init of jemalloc", ["eset_init"],
          shown=("eset_init",), environment=("MALLOC_CONF=narenas:2",)),
+    Case("pigz, eight bytes at a time, 3 threads", PIGZ, ("-p", 3, "-b", 32, "-1", "-n", "-c", "text"), "longest_match", MATCH,
+         native=("-p", 3, "-b", 32, "-1", "-n", "-c", f"{OUT}/large")),
+    Case("gzip, four bytes of a check at a time", GZIP, ("-1", "-n", "-c", "text"), "updcrc", CHECK),
+    Case("xxhsum, words read at once", HASH, ("-H1", "text"), "XXH64_update", HASH_LOOP),
+    Case("lz4, words read at once", LZ4, ("-1", "-B4", "-c", "text"), "the compressing function", LZ4_LOOP),
     Case("zlib, two bytes at a time, 2 threads", DEFLATER, (2, 16384, 6), "longest_match", MATCH, native=(4, 4000000, 6)),
     Case("SQLite, three calls direct, 4 threads", sqlite("calls", "sqlite3-after"), (4, 20), "six functions of these calls", CALLS,
          native=(4, 40000)),
