@@ -49,6 +49,7 @@ none_made h (c ∷ past) none now a = by (h == c.hart.0) none (λ e. none_made h
     some : (o : Option ℕ) → moment_or o c.moment ≡ None → ⊥
     some None e = let no : ◌≡◌ {A = Option ℕ} (Some c.moment) None = e in cc
     some (Some u) e = let no : ◌≡◌ {A = Option ℕ} (Some u) None = e in cc
+
     by : (b : Bool) → (if b then moment_or (made_at h past) c.moment else made_at h past) ≡ None → (made_at h past ≡ None → ticks_in a h now past ≡ 0)
         → (if b then ticks_in a h c.moment past + (if is_same a c.to then now - c.moment else 0) else ticks_in a h now past) ≡ 0
     by true e rest = absurd (some (made_at h past) e)
@@ -60,6 +61,7 @@ all h now made (c ∷ past) order is = by (h == c.hart.0) is (λ e. all h c.mome
   where
     mine : (b : Bool) (a : Activity) → ℕ
     mine b a = if b then ticks_in a h c.moment past + (if is_same a c.to then now - c.moment else 0) else ticks_in a h now past
+
     own : (made_at h past ≡ Some made → made + all_five h c.moment past ≡ c.moment) → (o : Option ℕ) → made_at h past ≡ o → moment_or o c.moment ≡ Some made → made + all_five h c.moment past ≡ c.moment
     own rest None none e =
         let same : c.moment ≡ made = cc in
@@ -70,6 +72,7 @@ all h now made (c ∷ past) order is = by (h == c.hart.0) is (λ e. all h c.mome
         let g = none_made h past none c.moment Gone in
         omega (arith, same, r, w, s, y, g)
     own rest (Some u) some e = let same : u ≡ made = cc in rest (some ∙ ap (λ n. Some n) same)
+
     by : (b : Bool) → (if b then moment_or (made_at h past) c.moment else made_at h past) ≡ Some made
         → (made_at h past ≡ Some made → made + all_five h c.moment past ≡ c.moment) → (made_at h past ≡ Some made → made + all_five h now past ≡ now)
         → made + (mine b Running + mine b Waiting + mine b Sleeping + mine b Ready + mine b Gone) ≡ now
@@ -93,6 +96,7 @@ not_gone h now (c ∷ past) lives stay = by (h == c.hart.0) refl (λ living. not
     same_of Sleeping e = refl
     same_of Ready e = refl
     same_of Gone e = absurd (let no : true ≡ false = e in cc)
+
     by : (b : Bool) → (h == c.hart.0) ≡ b → (((b : Change) → latest h past ≡ Some b → is_gone b.to ≡ false) → ticks_in Gone h c.moment past ≡ 0)
         → (((b : Change) → latest h past ≡ Some b → is_gone b.to ≡ false) → ticks_in Gone h now past ≡ 0)
         → (if b then ticks_in Gone h c.moment past + (if is_same Gone c.to then now - c.moment else 0) else ticks_in Gone h now past) ≡ 0
@@ -114,6 +118,7 @@ gone_is h now (c ∷ past) d is gone order stay = by (h == c.hart.0) refl is (λ
     same_of Sleeping e = absurd (let no : false ≡ true = e in cc)
     same_of Ready e = absurd (let no : false ≡ true = e in cc)
     same_of Gone e = refl
+
     by : (b : Bool) → (h == c.hart.0) ≡ b → (if b then Some c else latest h past) ≡ Some d
         → (latest h past ≡ Some d → ticks_in Gone h now past + d.moment ≡ now)
         → (if b then ticks_in Gone h c.moment past + (if is_same Gone c.to then now - c.moment else 0) else ticks_in Gone h now past) + d.moment ≡ now

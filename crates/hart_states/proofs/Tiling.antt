@@ -1,9 +1,9 @@
 -- The intervals of a hart tile its life.
-use Rattle.std.proofs.Common.{◌≡◌, ℕ, ◌+◌, ◌-◌, ◌≤◌, ◌<◌, ◌==◌, Bool, true, false, if◌then◌else◌, List, [], ◌∷◌, ◌++◌, refl, sym, ap, ◌∙◌, subst, Option, Some, None, filter, option_to_list, nat_lt, ltb-true, ltb-false, arith, append-nil}
+use Rattle.std.proofs.Common.{◌≡◌, ℕ, ◌≤◌, ◌==◌, Bool, true, false, if◌then◌else◌, List, [], ◌∷◌, ◌++◌, refl, sym, ap, ◌∙◌, subst, Option, Some, None, filter, option_to_list, nat_lt, ltb-true, ltb-false, arith, append-nil}
 use Rattle.std.proofs.lemmas.Bool.{eqb-true}
 use Rattle.hart_states.specs.declared.change.Change.{Change}
 use Rattle.hart_states.specs.declared.change.Interval.{Interval}
-use Rattle.hart_states.specs.Changes.{InOrder, StayGone, Tile, between, ended_by, intervals, intervals_of, is_gone, latest, made_at, moment_or}
+use Rattle.hart_states.specs.Changes.{InOrder, Tile, between, ended_by, intervals, intervals_of, is_gone, latest, made_at, moment_or}
 use Rattle.hart_states.specs.Laws.{IntervalsTile}
 
 filter_append : (p : Interval → Bool) (xs ys : List Interval) → filter p (xs ++ ys) ≡ filter p xs ++ filter p ys
@@ -53,6 +53,7 @@ was_made h (c ∷ past) b is none = by (h == c.hart.0) is none (λ some e. was_m
     some_is : (o : Option ℕ) → moment_or o c.moment ≡ None → ⊥
     some_is None e = let no : ◌≡◌ {A = Option ℕ} (Some c.moment) None = e in cc
     some_is (Some u) e = let no : ◌≡◌ {A = Option ℕ} (Some u) None = e in cc
+
     by : (t : Bool) → (if t then Some c else latest h past) ≡ Some b → (if t then moment_or (made_at h past) c.moment else made_at h past) ≡ None → (latest h past ≡ Some b → made_at h past ≡ None → ⊥) → ⊥
     by true some e rest = some_is (made_at h past) e
     by false some e rest = rest some e
@@ -107,6 +108,7 @@ tile h now made (c ∷ past) d order stay is some = by (h == c.hart.0) refl is s
     made_before : (o : Option ℕ) → made_at h past ≡ o → moment_or (made_at h past) c.moment ≡ Some made → (b : Change) → latest h past ≡ Some b → made_at h past ≡ Some made
     made_before None none e b some = absurd (was_made h past b some none)
     made_before (Some u) there e b some = there ∙ ap (λ o. moment_or o c.moment) (sym there) ∙ e
+
     own : ((b : Change) → made_at h past ≡ Some made → latest h past ≡ Some b → Tile made b.moment (intervals_of h past)) → (o : Option Change) → latest c.hart.0 past ≡ o → (h == c.hart.0) ≡ true → h ≡ c.hart.0 → moment_or (made_at h past) c.moment ≡ Some made
         → Tile made c.moment (intervals_of h past ++ mine h o c)
     own rest None none e same made_is =
@@ -120,6 +122,7 @@ tile h now made (c ∷ past) d order stay is some = by (h == c.hart.0) refl is s
         tile_append made b.moment c.moment (intervals_of h past) (mine h (Some b) c)
         (rest b (made_before (made_at h past) refl made_is b here) here)
         (subst (Tile b.moment c.moment) (sym (mine_is h b c bmine)) (between_tiles b c (latest_by h c.moment past b order.1 here) (stay.0 b there)))
+
     by : (t : Bool) → (h == c.hart.0) ≡ t → (if t then moment_or (made_at h past) c.moment else made_at h past) ≡ Some made → (if t then Some c else latest h past) ≡ Some d → ((b : Change) → made_at h past ≡ Some made → latest h past ≡ Some b → Tile made b.moment (intervals_of h past))
         → Tile made d.moment (intervals_of h (c ∷ past))
     by true e made_is latest_is rest =

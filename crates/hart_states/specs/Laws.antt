@@ -1,5 +1,5 @@
 -- The laws of what harts do.
-use Rattle.std.specs.Prelude.{◌≡◌, ◌≤◌, ℕ, ◌+◌, ◌-◌, List, Option, Some, None, if◌then◌else◌}
+use Rattle.std.specs.Prelude.{◌≡◌, ◌≤◌, ℕ, ◌+◌, List, Some, if◌then◌else◌}
 use Rattle.hart_states.specs.declared.change.Activity.{Activity}
 use Rattle.hart_states.specs.declared.change.Activity.TheVariants.{Running, Waiting, Sleeping, Ready, Gone}
 use Rattle.hart_states.specs.declared.change.Change.{Change}

@@ -1,0 +1,2 @@
+mod Tiling
+mod Rooting
