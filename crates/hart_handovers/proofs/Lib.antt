@@ -1,2 +1,2 @@
-mod Tiling
-mod Rooting
+pub mod Tiling
+pub mod Rooting

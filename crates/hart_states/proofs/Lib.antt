@@ -1,2 +1,3 @@
-mod Lives
-mod Tiling
+pub mod Lives
+pub mod Tiling
+pub mod Making

@@ -13,7 +13,7 @@ since : (b : Bool) (v now total : ℕ) → v ≤ now → total ≤ v → total +
 since true v now total later less = omega (arith, later, less)
 since false v now total later less = omega (arith, later, less)
 
-later_order : (v now : ℕ) (past : List Change) → v ≤ now → InOrder v past → InOrder now past
+pub later_order : (v now : ℕ) (past : List Change) → v ≤ now → InOrder v past → InOrder now past
 later_order v now [] later order = tt
 later_order v now (c ∷ past) later order = (let before = order.0 in omega (arith, before, later), order.1)
 

@@ -19,7 +19,7 @@ tile_append u v w [] ys first second = subst (λ n. Tile n w ys) (sym first) sec
 tile_append u v w (x ∷ xs) ys first second = (first.0, (first.1.0, tile_append x.to.moment v w xs ys first.1.1 second))
 
 -- the latest change of a hart is a change of it
-latest_of : (h : ℕ) (past : List Change) (b : Change) → latest h past ≡ Some b → h ≡ b.hart.0
+pub latest_of : (h : ℕ) (past : List Change) (b : Change) → latest h past ≡ Some b → h ≡ b.hart.0
 latest_of h [] b is = absurd (let no : ◌≡◌ {A = Option Change} None (Some b) = is in cc)
 latest_of h (c ∷ past) b is = by (h == c.hart.0) refl is (λ some. latest_of h past b some)
   where
@@ -28,7 +28,7 @@ latest_of h (c ∷ past) b is = by (h == c.hart.0) refl is (λ some. latest_of h
     by false e some rest = rest some
 
 -- it's no later than the run
-latest_by : (h now : ℕ) (past : List Change) (b : Change) → InOrder now past → latest h past ≡ Some b → b.moment ≤ now
+pub latest_by : (h now : ℕ) (past : List Change) (b : Change) → InOrder now past → latest h past ≡ Some b → b.moment ≤ now
 latest_by h now [] b order is = absurd (let no : ◌≡◌ {A = Option Change} None (Some b) = is in cc)
 latest_by h now (c ∷ past) b order is = by (h == c.hart.0) is (λ some. latest_by h c.moment past b order.1 some)
   where
@@ -37,7 +37,7 @@ latest_by h now (c ∷ past) b order is = by (h == c.hart.0) is (λ some. latest
     by false some rest = let before = rest some in let later = order.0 in omega (arith, before, later)
 
 -- a hart that has no change was not made
-not_made : (h : ℕ) (past : List Change) → latest h past ≡ None → made_at h past ≡ None
+pub not_made : (h : ℕ) (past : List Change) → latest h past ≡ None → made_at h past ≡ None
 not_made h [] is = refl
 not_made h (c ∷ past) is = by (h == c.hart.0) is (λ none. not_made h past none)
   where

@@ -1,5 +1,5 @@
 -- The changes of what harts do, in a list with the latest first, and what they tell of each hart.
-use Rattle.std.specs.Prelude.{◌≡◌, ℕ, ◌+◌, ◌-◌, ◌≤◌, ◌<◌, Bool, true, false, List, [], ◌∷◌, ◌++◌, Option, Some, None, if◌then◌else◌, ◌==◌, nat_lt, filter, option_map, option_to_list}
+use Rattle.std.specs.Prelude.{◌≡◌, ℕ, ◌+◌, ◌-◌, ◌≤◌, ◌<◌, Bool, true, false, List, [], ◌∷◌, ◌++◌, Option, Some, None, if◌then◌else◌, ◌==◌, nat_lt, filter, option_map, option_to_list, unwrap_or}
 use Rattle.hart_states.specs.declared.change.Activity.{Activity}
 use Rattle.hart_states.specs.declared.change.Activity.TheVariants.{Running, Waiting, Sleeping, Ready, Gone}
 use Rattle.hart_states.specs.declared.change.Change.{Change}
@@ -22,6 +22,11 @@ moment_or (Some u) v = Some u
 abbrev pub made_at : ℕ → List Change → Option ℕ
 made_at h [] = None
 made_at h (c ∷ past) = if h == c.hart.0 then moment_or (made_at h past) c.moment else made_at h past
+
+-- its first change
+abbrev pub earliest : ℕ → List Change → Option Change
+earliest h [] = None
+earliest h (c ∷ past) = if h == c.hart.0 then Some (unwrap_or (earliest h past) c) else earliest h past
 
 -- the same activity
 abbrev pub is_same : Activity → Activity → Bool

@@ -1,9 +1,9 @@
 -- The laws of what harts do.
-use Rattle.std.specs.Prelude.{◌≡◌, ◌≤◌, ℕ, ◌+◌, List, Some, if◌then◌else◌}
+use Rattle.std.specs.Prelude.{option_map, ◌≡◌, ◌≤◌, ℕ, ◌+◌, List, Some, if◌then◌else◌}
 use Rattle.hart_states.specs.declared.change.Activity.{Activity}
 use Rattle.hart_states.specs.declared.change.Activity.TheVariants.{Running, Waiting, Sleeping, Ready, Gone}
 use Rattle.hart_states.specs.declared.change.Change.{Change}
-use Rattle.hart_states.specs.Changes.{InOrder, StayGone, Tile, intervals_of, is_gone, latest, made_at, ticks_in}
+use Rattle.hart_states.specs.Changes.{earliest, InOrder, StayGone, Tile, intervals_of, is_gone, latest, made_at, ticks_in}
 
 -- the ticks that a hart has run, waited, slept and been ready
 abbrev pub lived : ℕ → ℕ → List Change → ℕ
@@ -33,3 +33,7 @@ IntervalsTile =
     (h now made : ℕ) (past : List Change) (c : Change) → InOrder now past → StayGone past
     → made_at h past ≡ Some made → latest h past ≡ Some c
     → Tile made c.moment (intervals_of h past)
+
+abbrev pub EarliestIsMaking : Type 0
+EarliestIsMaking =
+    (h : ℕ) (past : List Change) → made_at h past ≡ option_map (λ c. c.moment) (earliest h past)

@@ -6,7 +6,7 @@
 //! The definitions stand in `specs/`. They see the changes of a run as a list, the latest first.
 #![tactic(auto)]
 
-ghost use Rattle.hart_states.specs.Laws.{IntervalsTile, TicksAreLives, TicksAreWithin};
+ghost use Rattle.hart_states.specs.Laws.{EarliestIsMaking, IntervalsTile, TicksAreLives, TicksAreWithin};
 
 mod change;
 
@@ -27,4 +27,9 @@ pub fn ticks_are_within()
 /// made to its latest change, without gap or overlap.
 pub fn intervals_tile()
     ensures { IntervalsTile }
+{}
+
+/// A hart was made at its earliest change.
+pub fn earliest_is_making()
+    ensures { EarliestIsMaking }
 {}

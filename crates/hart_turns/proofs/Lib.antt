@@ -1,0 +1,3 @@
+mod Holding
+mod Telling
+mod Noting
