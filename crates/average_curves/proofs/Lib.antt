@@ -1,0 +1,4 @@
+pub mod Lines
+pub mod Ranks
+pub mod Rankings
+pub mod Sound
