@@ -29,6 +29,10 @@ exact_at : (point count : ℕ) → point < count → (exact : Option Profile) �
 exact_at point count lt None right as_many = tt
 exact_at point count lt (Some p) right as_many = measured_at point p count lt as_many right
 
+some_profiles : (k : ℕ) (ps : List Profile) → k < length (points_of ps) → 0 < length ps
+some_profiles k [] lt = absurd (omega (arith, lt))
+some_profiles k (p ∷ ps) lt = omega arith
+
 pub sound_at : (a : Averaged) (point : ℕ) → IsAveraged a → point < length (points_of a.profiles) → IsSoundAt point a
 sound_at a point is lt =
     let measured : AreMeasured point a.profiles = λ k d few. measured_at point (slice_index_or a.profiles k d) (length (points_of a.profiles)) lt (is.points k d few) (is.right k d few) in
@@ -37,7 +41,7 @@ sound_at a point is lt =
       seeds = is.seeds;
       measured = measured;
       seeds_measured = All-take (λ (p : Profile). All (IsMeasured point) p.summaries) a.seeds a.profiles measured;
-      exact = exact_at point (length (points_of a.profiles)) lt a.exact is.exact is.exact_points;
+      exact = exact_at point (length (points_of a.profiles)) lt a.exact is.exact (is.exact_points (some_profiles point a.profiles lt));
       runs = is.runs;
     }
 

@@ -1,5 +1,5 @@
 -- The averages of profiles of one program's lines: curves, and their ranks.
-use Rattle.std.specs.Prelude.{◌≡◌, ℕ, ◌+◌, ◌-◌, ◌≤◌, Bool, ◌==◌, true, false, List, [], ◌∷◌, length, take, flat_map, slice_get, Option, Some, None, IfSome, ℤ, if◌then◌else◌, All}
+use Rattle.std.specs.Prelude.{◌≡◌, ℕ, ◌+◌, ◌-◌, ◌<◌, ◌≤◌, Bool, ◌==◌, true, false, List, [], ◌∷◌, length, take, flat_map, slice_get, Option, Some, None, IfSome, ℤ, if◌then◌else◌, All}
 use Rattle.std.specs.List.{sum_by, filter, enumerate_from}
 use Rattle.std.specs.List.Sorted.{IsPermutation, IsSortedBy, IsStableBy}
 use Rattle.std.specs.Ordering.{is_lt, nat_cmp, int_cmp, ordering_then}
@@ -178,7 +178,8 @@ pub record IsAveraged (a : Averaged) : Type 0 where
   pub right : All IsProfile a.profiles
   pub exact : IfSome a.exact IsProfile
   pub points : All (λ (p : Profile). length p.points ≡ length (points_of a.profiles)) a.profiles
-  pub exact_points : IfSome a.exact (λ (p : Profile). length p.points ≡ length (points_of a.profiles))
+  pub exact_points : 0 < length a.profiles
+      → IfSome a.exact (λ (p : Profile). length p.points ≡ length (points_of a.profiles))
   pub runs : All (λ (p : Profile). length p.summaries ≡ length (runs_of (seeds_in a))) (seeds_in a)
 
 -- the same of one point: each run has a count of it
