@@ -25,7 +25,7 @@ use rv_decode::Instr;
 use std::alloc::{AllocError, Global};
 use std::marker::Model;
 use timing_model::{Charge, Costs, MAX_CORES, Timing};
-use timing_state::TimingState;
+use timing_state::{Ready, TimingState};
 use timing_steps::Retirement;
 
 /// The number of the call sched_yield (Linux on riscv64), by which a hart gives its slice up.
@@ -392,5 +392,13 @@ impl<'a> TimedGuest<'a> {
             fate,
         };
         self.state.retire(&retirement, started)
+    }
+
+    /// The harts that stand in line for a core, the eldest first.
+    #[inline]
+    pub fn ready(&self) -> &Ready
+        ensures { result.now ≡ self.now.beside.seats.ready }
+    {
+        self.state.ready()
     }
 }

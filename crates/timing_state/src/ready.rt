@@ -1,5 +1,5 @@
 //! The harts that stand in line for a core.
-ghost use Rattle.std.specs.Prelude.{◌≡◌, ◌<◌, [], ◌∷◌, ◌++◌, length, drop, IfOk, MatchOption, IsTrue, ◌↔◌};
+ghost use Rattle.std.specs.Prelude.{◌≡◌, ◌<◌, ◌≤◌, [], ◌∷◌, ◌++◌, length, drop, get_or, IfOk, MatchOption, IsTrue, ◌↔◌};
 ghost use Rattle.coz_types.specs.declared.TheConstants.{HARTS};
 ghost use Rattle.machines.specs.Places.{is_among};
 
@@ -91,5 +91,27 @@ impl Ready {
         let (front, back) = other.ring.as_slices();
         self.ring.fill_from_slice(front);
         self.ring.fill_from_slice(back);
+    }
+
+    /// How many harts stand in line.
+    #[inline]
+    pub fn len(&self) -> usize
+        ensures count { result ≡ length self.now }
+        ensures few { result ≤ HARTS }
+    {
+        self.ring.len()
+    }
+
+    /// The hart at a place in line; 0 is the place of the eldest.
+    #[inline]
+    pub fn at(&self, place: usize) -> HartId
+        requires { place < length self.now }
+        ensures hart { result.0 ≡ get_or self.now place 0 }
+        ensures low { result.0 < HARTS }
+    {
+        match self.ring.get(place) {
+            Some(hart) => HartId(*hart),
+            None => unreachable!(),
+        }
     }
 }

@@ -14,7 +14,7 @@ ghost use Rattle.timing_steps.specs.declared.ticks.TheConstants.{MAX_TICKS};
 use crate::notes::{FIRST_NOTE, note_of, note_retirement};
 use crate::seats::{copy_seats, first_seats};
 use crate::turn::{Turn, turn_by};
-use crate::{Note, Places, Seats};
+use crate::{Note, Places, Ready, Seats};
 use coz_types::{HartId, LineId, Tick};
 use guest_futex::HartList;
 use machines::Fate;
@@ -283,5 +283,14 @@ impl TimingState {
         self.is_kept = other.is_kept;
         self.notes.copy_from(&other.notes);
         copy_seats(&mut self.seats, &other.seats);
+    }
+
+    /// The harts that stand in line for a core, the eldest first. On a machine that needs no seats
+    /// nobody does.
+    #[inline]
+    pub fn ready(&self) -> &Ready
+        ensures { result.now ≡ self.now.seats.ready }
+    {
+        &self.seats.ready
     }
 }
