@@ -71,3 +71,16 @@ one_less f goal harts i waits new below is left =
 
 pub none_left : (f : Wait → Wait) (goal : List Wait) (harts : List HartId) (i : ℕ) (waits : List Wait) → length harts ≤ i → AreLeft f goal (numbers (drop i harts)) waits → waits ≡ goal
 none_left f goal harts i waits past left = subst (λ (hs : List ℕ). AreLeft f goal hs waits) (no_numbers harts i past) left
+
+-- the same of harts in line, by number
+next_in_line : (line : List ℕ) (i : ℕ) → i < length line → drop i line ≡ get_or line i 0 ∷ drop (i + 1) line
+next_in_line line i below = drop-cons line i 0 below ∙ rw add-one refl
+
+pub one_fewer : (f : Wait → Wait) (goal : List Wait) (line : List ℕ) (i : ℕ) (waits new : List Wait) → i < length line → new ≡ change never (get_or line i 0) f waits
+    → AreLeft f goal (drop i line) waits → AreLeft f goal (drop (i + 1) line) new
+one_fewer f goal line i waits new below is left =
+    ap (change_each never (drop (i + 1) line) (λ _. f)) is
+    ∙ subst (λ (hs : List ℕ). AreLeft f goal hs waits) (next_in_line line i below) left
+
+pub none_in_line : (f : Wait → Wait) (goal : List Wait) (line : List ℕ) (i : ℕ) (waits : List Wait) → length line ≤ i → AreLeft f goal (drop i line) waits → waits ≡ goal
+none_in_line f goal line i waits past left = subst (λ (hs : List ℕ). AreLeft f goal hs waits) (drop_all i line past) left

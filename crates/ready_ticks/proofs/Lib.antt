@@ -3,3 +3,4 @@ mod Told
 mod Nobody
 mod Moves
 mod Passing
+mod Shorter

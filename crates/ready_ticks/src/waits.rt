@@ -1,5 +1,5 @@
 //! What is noted of each hart.
-ghost use Rattle.std.specs.Prelude.{◌≡◌, ◌≤◌, ◌<◌, ◌^◌, ℕ, suc, [], map, All, IfOk};
+ghost use Rattle.std.specs.Prelude.{◌≡◌, ◌≤◌, ◌<◌, ◌^◌, ◌-◌, ℕ, List, suc, [], map, take, drop, min, length, All, IfOk};
 ghost use Rattle.coz_types.specs.declared.TheConstants.{HARTS};
 ghost use Rattle.machines.specs.Places.{change, change_each};
 ghost use Rattle.ready_ticks.specs.Ready.{Course};
@@ -8,7 +8,7 @@ ghost use Rattle.ready_ticks.specs.Waits.{AreTold, Passes, entered_at, never, pa
 use coz_types::{HartId, Tick};
 use std::alloc::{AllocError, Global};
 use std::marker::Model;
-use timing_state::Places;
+use timing_state::{Places, Ready};
 
 /// What is noted of a hart.
 #[derive(Clone, Copy)]
@@ -109,6 +109,17 @@ fn start_each(waits: &mut Places<Wait>, harts: &[HartId], now: Tick)
     }
 }
 
+/// The harts in line from a place on enter it, in order.
+fn enter_from(waits: &mut Places<Wait>, line: &Ready, from: usize, now: Tick)
+    ensures { waits.new
+        ≡ change_each never (drop from line.now) (λ _. entered_at now) waits.old }
+{
+    for place in from..line.len() {
+        let hart = line.at(place);
+        enter(waits, hart, now);
+    }
+}
+
 impl Waits {
     /// Nobody has stood in line. Fails only if out of memory.
     pub fn new(alloc: Global) -> Result<Waits, AllocError>
@@ -140,5 +151,24 @@ impl Waits {
     {
         enter_each(&mut self.harts, entered, now);
         start_each(&mut self.harts, started, now);
+    }
+
+    /// After a retirement at a moment with which these harts start, and which leaves this line.
+    /// `before` is how many stood in line before it. A hart that enters the line and starts with
+    /// one retirement is ready for no tick, and isn't noted.
+    pub fn follow(&mut self, now: Tick, before: usize, started: &[HartId], line: &Ready)
+        requires started { All (λ hart. hart.0 < HARTS) started.now }
+        requires few { (hart : ℕ) → ticks_at now (wait_of self.old hart) < 2 ^ 64 }
+        ensures noted { let left = min (length started.now) before in
+            self.new ≡ passed now (drop (before - left) line.now)
+            (take left (map (λ hart. hart.0) started.now)) self.old }
+        ensures told { (c : Course) (n : ℕ) (entered : List ℕ) → AreTold c n self.old
+            → length (c.line n) ≡ before → c.line (suc n) ≡ line.now
+            → Passes c n now entered (map (λ hart. hart.0) started.now)
+            → AreTold c (suc n) self.new }
+    {
+        let left = started.len().min(before);
+        enter_from(&mut self.harts, line, before - left, now);
+        start_each(&mut self.harts, &started[..left], now);
     }
 }

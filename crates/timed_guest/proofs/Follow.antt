@@ -146,7 +146,7 @@ module _ (t : Timing) (index : Index) (r : Run) where
     unfolding first_guest
     first_same = ap (λ (notes : List (Option Note)). with_notes notes x.first) (sym (kept_first (charges t.charge)))
 
-    retires_same : (c : Cores (Noted guests.Guest)) (h v : ℕ) → retire (f c) h v ≡ retirement_through f (x.guest.retire c h v)
+    pub retires_same : (c : Cores (Noted guests.Guest)) (h v : ℕ) → retire (f c) h v ≡ retirement_through f (x.guest.retire c h v)
     retires_same c h v =
         retires_kept (f c) h v costed.guest refl is
         ∙ ap
