@@ -1,3 +1,3 @@
-mod Lawful
+pub mod Lawful
 pub mod Machines
 pub mod Usual

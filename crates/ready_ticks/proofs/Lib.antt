@@ -1,6 +1,6 @@
 mod Changes
-mod Told
-mod Nobody
+pub mod Told
+pub mod Nobody
 mod Moves
-mod Passing
+pub mod Passing
 mod Shorter

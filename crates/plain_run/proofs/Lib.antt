@@ -1,0 +1,6 @@
+mod Course
+mod Passing
+mod Starting
+mod Walking
+mod OnCores
+mod Undelayed

@@ -1,0 +1,3 @@
+pub mod PlainRun
+pub mod Noting
+pub mod Laws
