@@ -11,5 +11,6 @@ pub mod WordMarks
 mod Rows
 pub mod Advance
 pub mod Quiet
+pub mod Once
 pub mod Choices
 mod Numbers

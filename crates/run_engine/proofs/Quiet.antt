@@ -244,7 +244,7 @@ completed_alike setting time g keys keys' others chosen kept retired wakes start
       };
 }
 
-alike : {time time' : ℕ} {g g' : Timed} {keys keys' : Keys} {others others' chosen chosen' : List ℕ} {kept kept' : Visits} {retired retired' wakes wakes' starts starts' : ℕ} {e e' : Option Ending}
+pub alike : {time time' : ℕ} {g g' : Timed} {keys keys' : Keys} {others others' chosen chosen' : List ℕ} {kept kept' : Visits} {retired retired' wakes wakes' starts starts' : ℕ} {e e' : Option Ending}
     → time ≡ time' → g ≡ g' → keys ≡ keys' → others ≡ others' → chosen ≡ chosen' → kept ≡ kept' → retired ≡ retired' → wakes ≡ wakes' → starts ≡ starts' → e ≡ e'
     → engine_of time g keys others chosen kept retired wakes starts e ≡ engine_of time' g' keys' others' chosen' kept' retired' wakes' starts' e'
 alike a b c d f k l m n o = cc

@@ -1,9 +1,9 @@
 //! The engine that both machines use, and its events.
-ghost use Rattle.std.specs.Prelude.{◌≡◌, ℕ, map, true, ◌+◌, ◌^◌, ◌≤◌, ◌<◌, ◌++◌, [], ◌∷◌, Some, length, nat_le, is_some, IfOk, All, if◌then◌else◌, IsTrue, MatchOption};
+ghost use Rattle.std.specs.Prelude.{◌≡◌, ℕ, map, true, false, ◌+◌, ◌^◌, ◌≤◌, ◌<◌, ◌++◌, [], ◌∷◌, Some, None, length, nat_le, is_some, IfOk, All, if◌then◌else◌, IsTrue, MatchOption};
 ghost use Rattle.coz_types.specs.declared.TheConstants.{MAX_BUDGET, MAX_SPEEDUP, MAX_OUTPUT, MAX_VISITS};
-ghost use Rattle.hart_schedule.specs.Keys.{key_of, without_key, IsEmpty, IsLeast};
+ghost use Rattle.hart_schedule.specs.Keys.{key_of, with_key, without_key, IsEmpty, IsLeast};
 ghost use Rattle.machines.specs.Delayed.{is_any};
-ghost use Rattle.machines.specs.declared.Fate.TheVariants.{Sleeps};
+ghost use Rattle.machines.specs.declared.Fate.TheVariants.{Goes, Sleeps};
 ghost use Rattle.machines.specs.Guest.{goes_on};
 ghost use Rattle.machines.specs.Shortened.{has_due_any};
 ghost use Rattle.progress_points.specs.Points.{point_of};
@@ -18,7 +18,7 @@ ghost use Rattle.run_engine.specs.Visits.{visits_of};
 ghost use Rattle.run_engine.specs.Advance.{is_wake};
 ghost use Rattle.timing_model.specs.Timing.{IsUsual};
 
-use crate::start::{add_if, begin, begin_again, begin_each, begin_next};
+use crate::start::{add_if, begin, begin_again, begin_each, begin_next, cost_on};
 use crate::{Choice, MarkedSetting, Setting, Visits};
 use coz_types::{Address, Ending, HARTS, HartId, Image, Tick, Visit};
 use guest_calls::Fate;
@@ -240,7 +240,7 @@ fn ending_after(
 }
 
 impl<'a> Engine<'a> {
-    ghost use Rattle.run_engine.specs.Run.{selected_of, ticks_in, IsChoice, IsSetting};
+    ghost use Rattle.run_engine.specs.Run.{is_selected_in, selected_of, ticks_in, IsChoice, IsSetting};
     ghost use Rattle.run_engine.specs.Engine.{IsSteady, IsFirst, IsOnMachine};
     ghost use Rattle.run_engine.specs.Advance.{CanComplete, IsAdvance, IsRetired, IsCompleted, IsWoken};
     ghost use Rattle.run_engine.specs.Far.{IsFarAdvance, IsFarRetired, HasPassed, AllowsQuiet};
@@ -305,7 +305,7 @@ impl<'a> Engine<'a> {
     /// Makes one move or more: quiet retirements, which go on, start no other hart, visit no point
     /// and begin no instruction of the selected line, and after them one move as `advance` makes
     /// it. Returns the event of the last move. `delay` is that of all moves: a quiet
-    /// retirement raises none. Only on the usual machine are there moves before the last.
+    /// retirement raises none.
     #[inline]
     pub fn advance_far(&mut self, marked: &MarkedSetting, delay: Tick) -> Event
         requires steady { IsSteady self.old }
@@ -314,6 +314,9 @@ impl<'a> Engine<'a> {
         requires delay { delay ≤ 10 ^ 17 }
         ensures { IsFarAdvance marked.now self.old result delay self.new }
     {
+        if !self.guest.is_usual() {
+            return self.advance_each(marked, delay);
+        }
         loop {
             let turn = first_turn(&self.schedule);
             if self.guest.is_sleeping(turn.hart) {
@@ -328,6 +331,125 @@ impl<'a> Engine<'a> {
                 return Event::Retired(retired);
             }
         }
+    }
+
+    /// `advance_far` with one retirement after the other, as a machine that is not the usual one
+    /// needs it.
+    #[inline(never)]
+    fn advance_each(&mut self, marked: &MarkedSetting, delay: Tick) -> Event
+        requires steady { IsSteady self.old }
+        requires setting { IsSetting marked.now }
+        requires machine { IsOnMachine marked.now self.old }
+        requires delay { delay ≤ 10 ^ 17 }
+        ensures { IsFarAdvance marked.now self.old result delay self.new }
+    {
+        let mut fate = Fate::Goes;
+        loop {
+            let turn = first_turn(&self.schedule);
+            if self.guest.is_sleeping(turn.hart) {
+                self.wake(marked.setting(), turn);
+                return Event::Woke(turn);
+            }
+            if marked.may_visit(self.guest.pc(turn.hart)) {
+                return Event::Retired(self.retire(marked.setting(), turn, delay));
+            }
+            let is_quiet = self.pass_once(marked.setting(), turn, delay, &mut fate);
+            if is_quiet {
+                continue;
+            }
+            return Event::Retired(Retired {
+                hart: turn.hart,
+                fate,
+            });
+        }
+    }
+
+    /// Retires the instruction of a running hart whose turn it is, and that visits no point. True
+    /// if it was quiet. Otherwise it is completed as `retire` does, and `fate` gets its fate.
+    #[inline(always)]
+    fn pass_once(
+        &mut self,
+        setting: &Setting,
+        turn: Turn,
+        delay: Tick,
+        fate: &mut Fate,
+    ) -> bool
+        requires steady { IsSteady self.old }
+        requires valid { IsSetting setting.now }
+        requires machine { IsOnMachine setting.now self.old }
+        requires delay { delay ≤ 10 ^ 17 }
+        requires turn { key_of self.old.schedule turn.hart.0 ≡ Some turn.due }
+        requires first { IsLeast self.old.schedule turn.hart.0 }
+        requires running { is_running self.old.guest turn.hart.0 ≡ true }
+        requires point { point_of setting.now.points.now (pc_of self.old.guest turn.hart.0)
+            ≡ None }
+        ensures quiet { result ≡ true → HasPassed setting.now self.old self.new }
+        ensures retired { result ≡ false
+            → IsFarRetired setting.now self.old turn.hart.0 fate.new delay self.new }
+    {
+        self.started.clear();
+        self.selected.clear();
+        let is_alone = self
+            .guest
+            .retire_on(turn.hart, turn.due, &mut self.started, fate);
+        self.time = turn.due;
+        self.retired += 1;
+        if is_alone {
+            *fate = Fate::Goes;
+            if self.ends_with(&setting.choice, Fate::Goes) {
+                self.settle(setting, turn.hart, Fate::Goes);
+                return false;
+            }
+            return self.go_on(setting, turn);
+        }
+        self.settle(setting, turn.hart, *fate);
+        false
+    }
+
+    /// `complete`, apart from the common case of `pass_once`.
+    #[inline(never)]
+    fn settle(&mut self, setting: &Setting, hart: HartId, fate: Fate)
+        requires { CanComplete setting.now self.old hart.0 fate }
+        ensures { IsCompleted setting.now self.old hart.0 fate self.new }
+    {
+        self.complete(setting, hart, fate);
+    }
+
+    /// Begins the next instruction of the hart that was due first and has retired. Whether it is
+    /// not selected, and due within the moments of a run.
+    #[inline(always)]
+    fn go_on(&mut self, setting: &Setting, turn: Turn) -> bool
+        requires made { IsMade self.old.guest turn.hart.0 }
+        requires speedup { setting.now.choice.speedup ≤ MAX_SPEEDUP }
+        requires first { IsLeast self.old.schedule turn.hart.0 }
+        requires due { turn.due ≤ last_moment }
+        requires selected { self.old.selected ≡ [] }
+        requires few { self.old.starts ≤ 2 ^ 62 }
+        ensures due { self.new.schedule
+            ≡ with_key turn.hart.0 (turn.due + ticks_in setting.now self.old.guest turn.hart.0)
+            (without_key turn.hart.0 self.old.schedule) }
+        ensures selected { self.new.selected
+            ≡ selected_of setting.now self.old.guest (turn.hart.0 ∷ []) }
+        ensures starts { self.new.starts ≡ self.old.starts + length self.new.selected }
+        ensures rest { self.new ≡ record self.old {
+          schedule = self.new.schedule;
+          selected = self.new.selected;
+          starts = self.new.starts;
+        } }
+        ensures plain { result ≡ true
+            → is_selected_in setting.now self.old.guest turn.hart.0 ≡ false }
+        ensures soon { result ≡ true
+            → turn.due + ticks_in setting.now self.old.guest turn.hart.0 ≤ last_moment }
+    {
+        let cost = cost_on(setting, &self.guest, turn.hart);
+        let next = turn.due + cost.ticks;
+        self.schedule.rekey_first(turn.hart, next);
+        if cost.selected {
+            self.selected.push(turn.hart);
+            self.starts += 1;
+            return false;
+        }
+        next <= LATEST
     }
 
     /// Retires instructions of a running hart whose turn it is, fewer than `most` of them quietly.

@@ -2,6 +2,7 @@
 
 ghost use Rattle.std.specs.Prelude.{◌≡◌, ◌+◌, ◌^◌, ◌≤◌, ◌<◌, ◌++◌, [], ◌∷◌, length, map, if◌then◌else◌, IsTrue};
 ghost use Rattle.coz_types.specs.declared.TheConstants.{MAX_SPEEDUP, HARTS};
+ghost use Rattle.timing_steps.specs.Ticks.{timed_ticks};
 ghost use Rattle.timing_steps.specs.declared.ticks.TheConstants.{MAX_TICKS};
 ghost use Rattle.hart_schedule.specs.Keys.{with_key, without_key};
 ghost use Rattle.machines.specs.Guest.{goes_on};
@@ -18,9 +19,31 @@ use timed_guest::TimedGuest;
 
 /// The ticks of a hart's next instruction, and whether it has the selected line or is charged to it.
 #[derive(Clone, Copy, Drop)]
-struct Cost {
-    ticks: Tick,
-    selected: bool,
+pub(crate) struct Cost {
+    pub(crate) ticks: Tick,
+    pub(crate) selected: bool,
+}
+
+/// The cost of a hart's next instruction of so many cycles, selected or not.
+#[inline(always)]
+fn cost_by(setting: &Setting, cycles: u64, selected: bool) -> Cost
+    requires speedup { setting.now.choice.speedup ≤ MAX_SPEEDUP }
+    requires few { cycles ≤ 20000 }
+    ensures ticks { result.ticks ≡ timed_ticks cycles selected setting.now.choice.speedup }
+    ensures selected { result.selected ≡ selected }
+    ensures few { result.ticks ≤ MAX_TICKS }
+{
+    if selected {
+        Cost {
+            ticks: cycles * (100 - u64::from(setting.choice.speedup)),
+            selected: true,
+        }
+    } else {
+        Cost {
+            ticks: 100 * cycles,
+            selected: false,
+        }
+    }
 }
 
 /// The cost of a hart's next instruction.
@@ -33,17 +56,22 @@ fn cost_of(setting: &Setting, guest: &TimedGuest, hart: HartId) -> Cost
     ensures few { result.ticks ≤ MAX_TICKS }
 {
     let cycles = guest.next_cycles(hart);
-    if guest.is_selected(hart, setting.choice.selected) {
-        Cost {
-            ticks: cycles * (100 - u64::from(setting.choice.speedup)),
-            selected: true,
-        }
-    } else {
-        Cost {
-            ticks: 100 * cycles,
-            selected: false,
-        }
-    }
+    let selected = guest.is_selected(hart, setting.choice.selected);
+    cost_by(setting, cycles, selected)
+}
+
+/// `cost_of`, without asking whether the machine is the usual one.
+#[inline(always)]
+pub(crate) fn cost_on(setting: &Setting, guest: &TimedGuest, hart: HartId) -> Cost
+    requires made { IsMade guest.now hart.0 }
+    requires speedup { setting.now.choice.speedup ≤ MAX_SPEEDUP }
+    ensures ticks { result.ticks ≡ ticks_in setting.now guest.now hart.0 }
+    ensures selected { result.selected ≡ is_selected_in setting.now guest.now hart.0 }
+    ensures few { result.ticks ≤ MAX_TICKS }
+{
+    let cycles = guest.cycles_on(hart);
+    let selected = guest.is_selected_on(hart, setting.choice.selected);
+    cost_by(setting, cycles, selected)
 }
 
 /// Appends a hart, if it is selected.

@@ -1,5 +1,6 @@
 -- The retirement of a hart on a machine of the timing model, and what its next instruction takes.
 use Rattle.std.specs.Prelude.{ℕ, ◌==◌, ◌&&◌, ◌||◌, Bool, true, false, if◌then◌else◌, List, Option, Some, None, option_map}
+use Rattle.coz_types.specs.declared.HartId.{HartId}
 use Rattle.coz_types.specs.declared.LineId.{LineId}
 use Rattle.line_index.specs.Keys.{is_at}
 use Rattle.machines.specs.declared.Fate.{Fate}
@@ -41,6 +42,16 @@ line_id line = record { 0 = line }
 abbrev pub line_noted : Timed → ℕ → Option LineId
 line_noted t h =
     if charges t.beside.timing.charge then option_map line_id (line_at t (pc_of t h)) else None
+
+-- a retirement at a net time of an instruction of this line
+abbrev pub past_of : HartId → ℕ → Option LineId → Bool → Fate → Retirement
+past_of hart moment line gives_up fate = record {
+  hart = hart;
+  moment = moment;
+  line = line;
+  gives_up = gives_up;
+  fate = fate;
+}
 
 -- a retirement at a net time, as the guest does it to this fate
 abbrev pub retirement_by : Timed → ℕ → ℕ → Fate → Retirement

@@ -1,18 +1,19 @@
 //! The guest on a machine.
-ghost use Rattle.std.specs.Prelude.{◌≡◌, ◌+◌, ◌≤◌, ◌<◌, ◌^◌, ◌↔◌, ℕ, [], length, Option, Some, IfOk, IfSome, IsTrue};
-ghost use Rattle.coz_types.specs.declared.TheConstants.{MAX_OUTPUT};
+ghost use Rattle.std.specs.Prelude.{◌≡◌, ◌+◌, ◌≤◌, ◌<◌, ◌^◌, ◌↔◌, ℕ, true, false, [], length, Option, Some, All, IfOk, IfSome, IsTrue};
+ghost use Rattle.coz_types.specs.declared.TheConstants.{HARTS, MAX_OUTPUT};
 ghost use Rattle.cost_table.specs.Costs.{cycles_of};
 ghost use Rattle.guest_calls.specs.Calls.{retirement as own_retirement};
 ghost use Rattle.guest_calls.specs.Quiet.{after_steps, moment_after, IsQuietStep, GoesOnAt};
 ghost use Rattle.guest_calls.specs.Retire.{retire as own_retire};
 ghost use Rattle.guest_memory.specs.Regions.{IsLayout};
 ghost use Rattle.line_index.specs.Keys.{is_at};
+ghost use Rattle.machines.specs.declared.Fate.TheVariants.{Goes};
 ghost use Rattle.rv_decode.specs.declared.Instr.{Instr};
 ghost use Rattle.timing_laws.specs.Noted.{note_of};
 ghost use Rattle.timing_model.specs.Timing.{IsTiming, IsUsual, cycles_in};
-ghost use Rattle.timing_steps.specs.State.{number_of};
+ghost use Rattle.timing_steps.specs.State.{after_retirement, number_of, turn_in};
 ghost use Rattle.timed_guest.specs.Guest.{IsMade, first_guest, is_running, is_sleeping, making, pc_of, with_wake};
-ghost use Rattle.timed_guest.specs.Retire.{cycles_of_next, gives_up, is_selected_by, line_charged, line_counted, line_noted, next_of, retire, retirement};
+ghost use Rattle.timed_guest.specs.Retire.{cycles_of_next, gives_up, is_selected_by, line_charged, line_counted, line_noted, next_of, past_of, retire, retirement};
 
 use crate::lines::Lines;
 use code_words::Marks;
@@ -47,6 +48,88 @@ fn is_usual(timing: Timing) -> bool
         && matches!(timing.charge, Charge::Nobody)
         && timing.seed == 0
         && are_usual(timing.costs)
+}
+
+/// Whether a hart goes on by its guest, and no other starts.
+#[inline(always)]
+fn goes_alone(fate: Fate, started: &HartList) -> bool
+    ensures fate { result ≡ true → fate ≡ Goes }
+    ensures started { result ≡ true → started.now ≡ [] }
+{
+    match fate {
+        Fate::Goes => started.harts().is_empty(),
+        _ => false,
+    }
+}
+
+/// A retirement on the machine in the common case: the hart goes on, no other starts, and nothing
+/// but its note changes. False in each other case: then nothing changes.
+#[inline(always)]
+fn pass(
+    state: &mut TimingState,
+    hart: HartId,
+    moment: Tick,
+    line: Option<LineId>,
+    gives_up: bool,
+    own: Fate,
+    started: &HartList,
+) -> bool
+    requires low { hart.0 < HARTS }
+    requires count { (note_of state.old.notes hart.0).count + 1 < 2 ^ 64 }
+    ensures state { result ≡ true → state.new
+        ≡ after_retirement state.old (past_of hart moment line gives_up own) started.now }
+    ensures fate { result ≡ true →
+        (turn_in state.old (past_of hart moment line gives_up own) started.now).fate ≡ Goes }
+    ensures others { result ≡ true →
+        (turn_in state.old (past_of hart moment line gives_up own) started.now).others ≡ [] }
+    ensures none { result ≡ true → started.now ≡ [] }
+    ensures same { result ≡ false → state.new ≡ state.old }
+{
+    if goes_alone(own, started) {
+        let past = Retirement {
+            hart,
+            moment,
+            line,
+            gives_up,
+            fate: Fate::Goes,
+        };
+        return state.pass(&past);
+    }
+    false
+}
+
+/// What a retirement comes to on the machine, apart from the common case. `fate` is at first what
+/// became of the hart by its guest.
+#[inline(never)]
+fn turn(
+    state: &mut TimingState,
+    hart: HartId,
+    moment: Tick,
+    line: Option<LineId>,
+    gives_up: bool,
+    fate: &mut Fate,
+    started: &mut HartList,
+)
+    requires low { hart.0 < HARTS }
+    requires moment { moment < 2 ^ 63 }
+    requires count { (note_of state.old.notes hart.0).count + 1 < 2 ^ 64 }
+    requires others { All (λ hart. hart < HARTS) started.old }
+    requires room { length state.old.seats.ready + length started.old < HARTS }
+    ensures state { state.new
+        ≡ after_retirement state.old (past_of hart moment line gives_up fate.old) started.old }
+    ensures fate { fate.new
+        ≡ (turn_in state.old (past_of hart moment line gives_up fate.old) started.old).fate }
+    ensures others { started.new
+        ≡ (turn_in state.old (past_of hart moment line gives_up fate.old) started.old).others }
+{
+    let past = Retirement {
+        hart,
+        moment,
+        line,
+        gives_up,
+        fate: *fate,
+    };
+    *fate = state.retire(&past, started);
 }
 
 /// A guest on a machine of the timing model. All its room is taken when it is made.
@@ -148,8 +231,28 @@ impl<'a> TimedGuest<'a> {
         if self.is_usual {
             self.guest.next_cycles(hart)
         } else {
-            self.state.cycles(hart, self.guest.next(hart))
+            self.cycles_timed(hart)
         }
+    }
+
+    /// `next_cycles` on another machine than the usual one.
+    #[inline(never)]
+    fn cycles_timed(&self, hart: HartId) -> u64
+        requires { IsMade self.now hart.0 }
+        ensures cycles { result ≡ cycles_of_next self.now hart.0 }
+        ensures few { result ≤ 20000 }
+    {
+        self.cycles_on(hart)
+    }
+
+    /// `next_cycles`, without asking whether the machine is the usual one.
+    #[inline(always)]
+    pub fn cycles_on(&self, hart: HartId) -> u64
+        requires { IsMade self.now hart.0 }
+        ensures cycles { result ≡ cycles_of_next self.now hart.0 }
+        ensures few { result ≤ 20000 }
+    {
+        self.state.cycles(hart, self.guest.next(hart))
     }
 
     /// The address of the next instruction of a hart that was made.
@@ -180,10 +283,22 @@ impl<'a> TimedGuest<'a> {
         }
     }
 
+    /// `is_selected`, without asking whether the machine is the usual one.
+    #[inline(always)]
+    pub fn is_selected_on(&self, hart: HartId, selected: Option<LineId>) -> bool
+        requires { IsMade self.now hart.0 }
+        ensures { result ≡ is_selected_by (number_of selected) self.now hart.0 }
+    {
+        match selected {
+            Some(line) => self.has_line(hart, line),
+            None => false,
+        }
+    }
+
     /// The line that the next instruction of a hart that was made counts for: its own, or if it has
     /// none and the machine charges such code the hart's last line. It is the one line that, if
     /// selected, has the instruction selected.
-    #[inline]
+    #[inline(always)]
     pub fn line_of(&self, hart: HartId) -> Option<LineId>
         requires { IsMade self.now hart.0 }
         ensures line { number_of result ≡ line_counted self.now hart.0 }
@@ -326,7 +441,7 @@ impl<'a> TimedGuest<'a> {
     }
 
     /// The line of a hart's next instruction, as it is noted: none on a machine that charges none.
-    #[inline]
+    #[inline(always)]
     fn line_noted(&self, hart: HartId) -> Option<LineId>
         requires { IsMade self.now hart.0 }
         ensures { result ≡ line_noted self.now hart.0 }
@@ -339,7 +454,7 @@ impl<'a> TimedGuest<'a> {
 
     /// The line that code without a line is charged to as a hart runs it: none on a machine that
     /// charges none.
-    #[inline]
+    #[inline(always)]
     fn line_charged(&self, hart: HartId) -> Option<LineId>
         ensures { number_of result ≡ line_charged self.now hart.0 }
     {
@@ -349,13 +464,33 @@ impl<'a> TimedGuest<'a> {
         }
     }
 
-    /// Whether a hart's next instruction counts for a line.
-    #[inline]
+    /// `has_line`, apart from the common case.
+    #[inline(never)]
     fn counts_for(&self, hart: HartId, line: LineId) -> bool
         requires { IsMade self.now hart.0 }
         ensures { result ≡ is_selected_by (Some line.0) self.now hart.0 }
     {
-        match self.line_of(hart) {
+        self.has_line(hart, line)
+    }
+
+    /// Whether a hart's next instruction counts for a line.
+    #[inline(always)]
+    fn has_line(&self, hart: HartId, line: LineId) -> bool
+        requires { IsMade self.now hart.0 }
+        ensures { result ≡ is_selected_by (Some line.0) self.now hart.0 }
+    {
+        match self.lines.line_of(self.pc(hart)) {
+            Some(own) => own.0 == line.0,
+            None => self.is_charged(hart, line),
+        }
+    }
+
+    /// Whether code without a line is charged to this one as a hart runs it.
+    #[inline(always)]
+    fn is_charged(&self, hart: HartId, line: LineId) -> bool
+        ensures { result ≡ is_at line.0 (line_charged self.now hart.0) }
+    {
+        match self.line_charged(hart) {
             Some(own) => own.0 == line.0,
             None => false,
         }
@@ -371,7 +506,7 @@ impl<'a> TimedGuest<'a> {
             && matches!(self.guest.next(hart), Some(Instr::Ecall))
     }
 
-    /// Retires as `retire` does, on any machine.
+    /// Retires as `retire` does on another machine than the usual one.
     #[inline(never)]
     fn retire_timed(&mut self, hart: HartId, net: Tick, started: &mut HartList) -> Fate
         requires running { IsTrue (is_running self.old hart.0) }
@@ -381,17 +516,61 @@ impl<'a> TimedGuest<'a> {
         ensures effect { retirement self.new result started.new ≡ retire self.old hart.0 net }
         ensures made { making self.new ≡ making self.old }
     {
+        // The invariant of `self` is known to a proof once a field is used.
+        let _ = &self.is_usual;
+        let mut fate = Fate::Goes;
+        if self.retire_on(hart, net, started, &mut fate) {
+            return Fate::Goes;
+        }
+        fate
+    }
+
+    /// Retires as `retire` does, without asking whether the machine is the usual one. True in the
+    /// common case: the hart goes on, and no other starts. Otherwise `fate` gets its fate.
+    #[inline(always)]
+    pub fn retire_on(
+        &mut self,
+        hart: HartId,
+        net: Tick,
+        started: &mut HartList,
+        fate: &mut Fate,
+    ) -> bool
+        requires running { IsTrue (is_running self.old hart.0) }
+        requires started { started.old ≡ [] }
+        requires net { net < 2 ^ 62 }
+        requires count { (note_of self.old.beside.notes hart.0).count < 2 ^ 62 }
+        ensures alone { result ≡ true → retirement self.new Goes [] ≡ retire self.old hart.0 net }
+        ensures none { result ≡ true → started.new ≡ [] }
+        ensures effect { result ≡ false
+            → retirement self.new fate.new started.new ≡ retire self.old hart.0 net }
+        ensures made { making self.new ≡ making self.old }
+    {
         let line = self.line_noted(hart);
         let gives_up = self.gives_up(hart);
-        let fate = self.guest.retire(hart, net, started);
-        let retirement = Retirement {
+        let own = self.guest.retire(hart, net, started);
+        let has_passed = pass(
+            &mut self.state,
             hart,
-            moment: net,
+            net,
+            line,
+            gives_up,
+            own,
+            started,
+        );
+        if has_passed {
+            return true;
+        }
+        *fate = own;
+        turn(
+            &mut self.state,
+            hart,
+            net,
             line,
             gives_up,
             fate,
-        };
-        self.state.retire(&retirement, started)
+            started,
+        );
+        false
     }
 
     /// The harts that stand in line for a core, the eldest first.

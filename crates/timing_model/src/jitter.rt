@@ -1,5 +1,5 @@
 //! The jitter: which instructions cost twice.
-ghost use Rattle.std.specs.Prelude.{◌≡◌, ◌≤◌};
+ghost use Rattle.std.specs.Prelude.{◌≡◌, ◌≢◌, ◌≤◌, ℕ};
 ghost use Rattle.timing_laws.specs.Noted.{splitmix, chance, is_doubled};
 
 /// How many instructions of a hart have one chance.
@@ -43,7 +43,16 @@ pub fn is_doubled(seed: u64, hart: u32, count: u64) -> bool
     if seed == 0 {
         return false;
     }
-    let key = splitmix(seed, u64::from(hart));
+    is_doubled_by(splitmix(seed, u64::from(hart)), count)
+}
+
+/// `is_doubled` by the hart's key, which is output number `hart` of `splitmix` of the seed. The seed
+/// is not 0.
+#[inline(always)]
+pub fn is_doubled_by(key: u64, count: u64) -> bool
+    ensures { (seed hart : ℕ) → seed ≢ 0 → key ≡ splitmix seed hart
+        → result ≡ is_doubled seed hart count }
+{
     let drawn = splitmix(key, count) % 100;
     // Most draws are above each chance, so that of the block is not asked for.
     drawn < CHANCES && drawn < chance(key, count / BLOCK)

@@ -13,5 +13,5 @@ mod jitter;
 mod timing;
 
 pub use costs::{Class, Costs, MAX_COST, class_of};
-pub use jitter::{is_doubled, splitmix};
+pub use jitter::{is_doubled, is_doubled_by, splitmix};
 pub use timing::{Charge, MAX_CORES, MAX_SLICE, Timing};

@@ -3,4 +3,5 @@ pub mod Line
 pub mod Turns
 pub mod Noting
 pub mod Kept
+pub mod Drawn
 mod InLine

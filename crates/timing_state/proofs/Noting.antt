@@ -1,10 +1,10 @@
 -- Notes of harts that were made, one by one.
-use Rattle.std.proofs.Common.{◌≡◌, ℕ, ◌+◌, ◌<◌, List, ◌∷◌, length, drop, drop-cons, add-one, Option, Some, None, get_or, map, refl, sym, ap, ◌∙◌, arith}
+use Rattle.std.proofs.Common.{◌≡◌, ℕ, zero, suc, ◌+◌, ◌<◌, List, [], ◌∷◌, length, drop, drop-cons, add-one, Option, Some, None, get_or, unwrap_or, map, refl, sym, ap, ◌∙◌, arith}
 use Rattle.std.proofs.lemmas.List.{length-map}
 use Rattle.coz_types.specs.declared.HartId.{HartId}
 use Rattle.machines.specs.Places.{change, change_each}
 use Rattle.coz_types.specs.declared.LineId.{LineId}
-use Rattle.timing_laws.specs.Noted.{Note, last_line, made, noted}
+use Rattle.timing_laws.specs.Noted.{Note, first_note, made, note_of, noted}
 use Rattle.timing_state.specs.declared.notes.Note.{Note as HeldNote}
 use Rattle.timing_steps.specs.State.{number_of}
 use Rattle.timing_state.specs.Notes.{held_note, notes_of, note_as}
@@ -18,18 +18,24 @@ pub read_note : (h : ℕ) (notes : List (Option HeldNote)) → get_or (notes_of 
 read_note h notes = map_get held_note notes h None
 
 -- the note of a hart that retires an instruction
-abbrev pub after : Option LineId → HeldNote → HeldNote
-after last before = record { last = last; count = before.count + 1 }
-
-pub put_noted : (h : ℕ) (line last : Option LineId) (before : HeldNote) (n : Note) (notes new : List (Option HeldNote)) → note_as before ≡ n
-    → number_of last ≡ last_line (number_of line) (number_of before.last)
-    → new ≡ change None h (λ _. Some (after last before)) notes
+pub put_noted : (h : ℕ) (line : Option LineId) (after : HeldNote) (n : Note) (notes new : List (Option HeldNote)) → note_as after ≡ noted (number_of line) n
+    → new ≡ change None h (λ _. Some after) notes
     → notes_of new ≡ change None h (λ _. Some (noted (number_of line) n)) (notes_of notes)
-put_noted h line last before n notes new is lasts put =
+put_noted h line after n notes new is put =
     ap (λ (ns : List (Option HeldNote)). notes_of ns) put
-    ∙ put_note h (Some (after last before)) notes
-    ∙ ap (λ (l : Option ℕ). let q : Note = record { last = l; count = before.count + 1 } in change None h (λ _. Some q) (notes_of notes)) lasts
-    ∙ ap (λ (m : Note). change None h (λ _. Some (noted (number_of line) m)) (notes_of notes)) is
+    ∙ put_note h (Some after) notes
+    ∙ ap (λ (q : Note). change None h (λ _. Some q) (notes_of notes)) is
+
+-- a hart that has a note
+pub held_low : (h : ℕ) (before : HeldNote) (notes : List (Option HeldNote)) → Some before ≡ get_or notes h None → h < length notes
+held_low h before [] is = absurd (let no : ◌≡◌ {A = Option HeldNote} (Some before) None = is in cc)
+held_low zero before (n ∷ notes) is = omega arith
+held_low (suc h) before (n ∷ notes) is = let less : h < length notes = held_low h before notes is in omega (arith, less)
+
+pub held_note_of : (h : ℕ) (before : HeldNote) (notes : List (Option HeldNote)) → Some before ≡ get_or notes h None → note_as before ≡ note_of (notes_of notes) h
+held_note_of h before notes is =
+    ap (λ (o : Option HeldNote). unwrap_or (held_note o) first_note) is
+    ∙ ap (λ (o : Option Note). unwrap_or o first_note) (sym (read_note h notes))
 
 -- the note of a hart that was made or woken
 pub put_made : (h : ℕ) (last : Option LineId) (v : HeldNote) (notes : List (Option HeldNote))

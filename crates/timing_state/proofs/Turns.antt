@@ -1,9 +1,11 @@
 -- Retirements on cores.
-use Rattle.std.proofs.Common.{◌≡◌, ℕ, ◌+◌, ◌-◌, Bool, true, false, if◌then◌else◌, List, ◌++◌, length, take, drop, refl, sym, ap, ◌∙◌, arith, length-append, length-take, length-drop}
+use Rattle.std.proofs.Common.{◌≡◌, ℕ, ◌+◌, ◌-◌, ◌≤◌, ◌⊎◌, [], Bool, true, false, if◌then◌else◌, List, ◌++◌, length, take, drop, refl, sym, ap, ◌∙◌, arith, length-append, length-take, length-drop}
+use Rattle.std.proofs.lemmas.List.{append-nil}
 use Rattle.machines.specs.Places.{change}
 use Rattle.machines.specs.declared.Fate.{Fate}
 use Rattle.machines.specs.declared.Fate.TheVariants.{Goes, Waits}
 use Rattle.timing_laws.specs.Cores.{Seats, Turned, fill, starting, in_line, given_up, is_free, sliced, unsliced, turned_by}
+use Rattle.timing_state.proofs.Line.{fill_none, starting_none}
 
 split_length : (n : ℕ) (xs : List ℕ) → length (take n xs) + length (drop n xs) ≡ length xs
 split_length n xs = simp (length-take, length-drop) (omega arith)
@@ -79,3 +81,17 @@ pub stops : (fate : Fate) (cores moment : ℕ) (others out : List ℕ) (s f m : 
     → turned_to fate m out ≡ unsliced fate (starting cores (in_line others s)) (fill cores moment (in_line others s))
 stops fate cores moment others out s f m same filled started =
     turned_as fate m (fill cores moment (in_line others s)) out (starting cores (in_line others s)) (filled ∙ ap (λ (q : Seats). fill cores moment (in_line others q)) same) (started ∙ ap (λ (q : Seats). starting cores (in_line others q)) same)
+
+-- nobody comes to stand in line
+nobody_in : (s : Seats) → in_line [] s ≡ s
+nobody_in s = ap (λ (line : List ℕ). let q : Seats = record s { ready = line } in q) (append-nil s.ready)
+
+-- a hart goes on within its slice, starts no other, and nobody in line can start: all stays
+pub passes : (cores moment h : ℕ) (is_over : Bool) (others : List ℕ) (fate : Fate) (s : Seats) → fate ≡ Goes → others ≡ [] → is_over ≡ false
+    → (cores ≤ s.on) ⊎ (s.ready ≡ []) → turned_to Goes s [] ≡ turned_by cores moment h is_over others fate s
+passes cores moment h is_over others fate s goes none within stop =
+    goes_within cores moment h is_over [] [] s s within
+    (sym (fill_none cores moment s stop) ∙ ap (λ (q : Seats). fill cores moment q) (sym (nobody_in s)))
+    (sym (starting_none cores s stop) ∙ ap (λ (q : Seats). starting cores q) (sym (nobody_in s)))
+    ∙ ap (λ (hs : List ℕ). turned_by cores moment h is_over hs Goes s) (sym none)
+    ∙ ap (λ (f : Fate). turned_by cores moment h is_over others f s) (sym goes)

@@ -12,6 +12,7 @@
 //! ```
 #![tactic(auto)]
 
+mod jitter;
 mod notes;
 mod places;
 mod ready;
@@ -19,6 +20,7 @@ mod seats;
 mod state;
 mod turn;
 
+pub use jitter::Jitter;
 pub use notes::Note;
 pub use places::Places;
 pub use ready::Ready;

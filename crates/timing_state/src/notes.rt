@@ -38,7 +38,7 @@ pub(crate) fn note_of(notes: &Places<Option<Note>>, hart: HartId) -> Note
 }
 
 /// The last line of a hart that had this one, once it retires an instruction of a line or of none.
-#[inline]
+#[inline(always)]
 fn last_line(line: Option<LineId>, last: Option<LineId>) -> Option<LineId>
     ensures { number_of result ≡ last_line (number_of line) (number_of last) }
 {
@@ -48,8 +48,39 @@ fn last_line(line: Option<LineId>, last: Option<LineId>) -> Option<LineId>
     }
 }
 
+/// The note of a hart once it retires an instruction of a line or of none.
+#[inline(always)]
+fn noted(line: Option<LineId>, before: Note) -> Note
+    requires few { before.count + 1 < 2 ^ 64 }
+    ensures note { note_as result ≡ noted (number_of line) (note_as before) }
+    ensures last { number_of result.last
+        ≡ last_line (number_of line) (number_of before.last) }
+{
+    Note {
+        last: last_line(line, before.last),
+        count: before.count + 1,
+    }
+}
+
 /// Notes that a hart retires an instruction of this line. Returns its last line then.
-#[inline]
+#[inline(never)]
+fn pass_any(notes: &mut Places<Option<Note>>, hart: HartId, line: Option<LineId>) -> Option<LineId>
+    requires low { hart.0 < HARTS }
+    requires few { (note_of (notes_of notes.old) hart.0).count + 1 < 2 ^ 64 }
+    ensures notes { notes_of notes.new ≡ change None hart.0
+        (λ _. Some (noted (number_of line) (note_of (notes_of notes.old) hart.0)))
+        (notes_of notes.old) }
+    ensures last { number_of result
+        ≡ last_line (number_of line) (note_of (notes_of notes.old) hart.0).last }
+{
+    let before = note_of(notes, hart);
+    let after = noted(line, before);
+    notes.put(hart, Some(after), None);
+    after.last
+}
+
+/// `pass_any`, with the common case first: the hart has a note.
+#[inline(always)]
 pub(crate) fn pass(
     notes: &mut Places<Option<Note>>,
     hart: HartId,
@@ -63,14 +94,12 @@ pub(crate) fn pass(
     ensures last { number_of result
         ≡ last_line (number_of line) (note_of (notes_of notes.old) hart.0).last }
 {
-    let before = note_of(notes, hart);
-    let last = last_line(line, before.last);
-    let after = Note {
-        last,
-        count: before.count + 1,
+    let Some(before) = notes.get(hart, None) else {
+        return pass_any(notes, hart, line);
     };
-    notes.put(hart, Some(after), None);
-    last
+    let after = noted(line, before);
+    notes.set(hart, Some(after));
+    after.last
 }
 
 /// The note of a hart that was made or woken: its own, or one with this last line.

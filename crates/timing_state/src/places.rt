@@ -43,8 +43,35 @@ fn extend<T: Copy>(items: &mut Vec<T>, count: usize, fresh: T)
     }
 }
 
+/// Puts a value at an index past the last one, with `fresh` before it where there is none.
+#[inline(never)]
+fn append_at<T: Copy>(items: &mut Vec<T>, index: usize, value: T, fresh: T)
+    requires low { index < HARTS }
+    requires past { length items.old.items ≤ index }
+    requires room { HARTS ≤ vec_capacity items.old }
+    ensures items { items.new.items ≡ change fresh index (λ _. value) items.old.items }
+    ensures few { length items.new.items ≤ HARTS }
+    ensures capacity { vec_capacity items.old ≤ vec_capacity items.new }
+{
+    extend(items, index, fresh);
+    let Ok(()) = items.push(value) else {
+        unreachable!()
+    };
+}
+
+/// Puts a value in the place of another one.
+#[inline(always)]
+fn set_at<T: Copy>(items: &mut Vec<T>, index: usize, value: T)
+    requires held { index < length items.old.items }
+    ensures items { (fresh : T) → items.new.items ≡ change fresh index (λ _. value)
+        items.old.items }
+    ensures count { length items.new.items ≡ length items.old.items }
+    ensures capacity { vec_capacity items.old ≤ vec_capacity items.new }
+{
+    items[index] = value;
+}
+
 /// Puts a value at an index, with `fresh` before it where there is none.
-#[tactic(auto, using(crate::proofs::Maps::change_within, crate::proofs::Maps::change_past))]
 #[inline(always)]
 fn put_at<T: Copy>(items: &mut Vec<T>, index: usize, value: T, fresh: T)
     requires low { index < HARTS }
@@ -59,10 +86,7 @@ fn put_at<T: Copy>(items: &mut Vec<T>, index: usize, value: T, fresh: T)
         items[index] = value;
         return;
     }
-    extend(items, index, fresh);
-    let Ok(()) = items.push(value) else {
-        unreachable!()
-    };
+    append_at(items, index, value, fresh);
 }
 
 impl<T: Copy> Places<T> {
@@ -86,6 +110,15 @@ impl<T: Copy> Places<T> {
         } else {
             fresh
         }
+    }
+
+    /// Gives a hart that has a value another one.
+    #[inline(always)]
+    pub fn set(&mut self, hart: HartId, value: T)
+        requires held { hart.0 < length self.old }
+        ensures { (fresh : T) → self.new ≡ change fresh hart.0 (λ _. value) self.old }
+    {
+        set_at(&mut self.items, usize::from(hart.0), value);
     }
 
     /// Gives a hart a value. Harts before it that had none get `fresh`.

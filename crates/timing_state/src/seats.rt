@@ -41,8 +41,8 @@ pub(crate) fn copy_seats(seats: &mut Seats, other: &Seats)
 }
 
 /// Whether a core is free, and somebody stands in line.
-#[inline]
-fn can_start(seats: &Seats, cores: usize) -> bool
+#[inline(always)]
+pub(crate) fn can_start(seats: &Seats, cores: usize) -> bool
     ensures yes { result ≡ true → (seats.now.on < cores) × (seats.now.ready ≢ []) }
     ensures no { result ≡ false → (cores ≤ seats.now.on) ⊎ (seats.now.ready ≡ []) }
 {

@@ -1,7 +1,8 @@
 //! The state of a machine of the timing model, beside its guest.
-ghost use Rattle.std.specs.Prelude.{◌≡◌, ◌+◌, ◌*◌, ◌<◌, ◌≤◌, ◌^◌, ◌&&◌, length, All, IfOk, IsTrue};
+ghost use Rattle.std.specs.Prelude.{◌≡◌, ℕ, true, false, [], ◌+◌, ◌*◌, ◌<◌, ◌≤◌, ◌^◌, ◌&&◌, length, All, IfOk, IsTrue};
 ghost use Rattle.coz_types.specs.declared.TheConstants.{HARTS};
 ghost use Rattle.machines.specs.Places.{is_among};
+ghost use Rattle.machines.specs.declared.Fate.TheVariants.{Goes};
 ghost use Rattle.timing_laws.specs.Cores.{Turned};
 ghost use Rattle.timing_laws.specs.Noted.{is_charged, note_of, notes_after};
 ghost use Rattle.timing_model.specs.Timing.{IsTiming, charges};
@@ -11,10 +12,10 @@ ghost use Rattle.timing_steps.specs.State.{after_retirement, after_wake, first_s
 ghost use Rattle.timing_steps.specs.Ticks.{timed_cycles, timed_raise, timed_ticks};
 ghost use Rattle.timing_steps.specs.declared.ticks.TheConstants.{MAX_TICKS};
 
-use crate::notes::{FIRST_NOTE, note_of, note_retirement};
-use crate::seats::{copy_seats, first_seats};
+use crate::notes::{FIRST_NOTE, note_of, note_retirement, pass};
+use crate::seats::{can_start, copy_seats, first_seats};
 use crate::turn::{Turn, turn_by};
-use crate::{Note, Places, Ready, Seats};
+use crate::{Jitter, Note, Places, Ready, Seats};
 use coz_types::{HartId, LineId, Tick};
 use guest_futex::HartList;
 use machines::Fate;
@@ -22,7 +23,7 @@ use rv_decode::Instr;
 use std::alloc::{AllocError, Global};
 use std::marker::Model;
 use timing_model::{Charge, MAX_CORES, Timing};
-use timing_steps::{Instruction, Retirement, cycles_of, raise_of, ticks_of};
+use timing_steps::{Instruction, Retirement, raise_of, ticks_of};
 
 /// What a machine of the timing model keeps beside its guest.
 ///
@@ -34,6 +35,7 @@ pub struct TimingState {
     timing: Timing,
     // Whether the machine needs the notes and the seats.
     is_kept: bool,
+    jitter: Jitter,
     notes: Places<Option<Note>>,
     seats: Seats,
 }
@@ -53,7 +55,8 @@ impl Model for TimingState {
       seats = seats_of s.seats;
     } };
 
-    ghost invariant = { λ s. IsTiming s.timing × (s.is_kept ≡ keeps s.timing) };
+    ghost invariant = { λ s. IsTiming s.timing × (s.is_kept ≡ keeps s.timing)
+        × (s.jitter ≡ s.timing.seed) };
 }
 
 /// Whether a machine needs notes and seats.
@@ -64,12 +67,24 @@ fn keeps(timing: Timing) -> bool
 }
 
 /// Whether the slice of the hart that retires is over, or it gives its slice up.
-#[inline]
+#[inline(always)]
 fn is_over(seats: &Seats, retirement: &Retirement) -> bool
     ensures { result ≡ is_over_at (seats_of seats.now) retirement.now.hart.0
         retirement.now.moment retirement.now.gives_up }
 {
     seats.slice_ends.get(retirement.hart, 0) <= retirement.moment || retirement.gives_up
+}
+
+/// Whether nothing but the note of its hart changes with a retirement on so many cores, after
+/// which the guest lets the hart go on and starts no other: its slice is not over, and nobody in
+/// line has a free core.
+#[inline(always)]
+fn is_passing(seats: &Seats, cores: usize, retirement: &Retirement) -> bool
+    requires goes { retirement.now.fate ≡ Goes }
+    ensures turn { result ≡ true → (slice : ℕ) → turned seats.now Goes []
+        ≡ turn_on cores slice retirement.now [] (seats_of seats.now) }
+{
+    !can_start(seats, cores) && !is_over(seats, retirement)
 }
 
 /// A retirement on a machine that needs notes and seats.
@@ -112,6 +127,7 @@ impl TimingState {
         Ok(TimingState {
             timing,
             is_kept: keeps(timing),
+            jitter: Jitter::new(alloc, timing.seed)?,
             notes: Places::new(alloc, Some(FIRST_NOTE))?,
             seats: first_seats(alloc, 100 * timing.slice)?,
         })
@@ -151,6 +167,30 @@ impl TimingState {
         retirement.fate
     }
 
+    /// A hart retires that goes on by its guest, which made or woke no other. True if it goes on on
+    /// the cores too and nobody starts, which changes nothing but its note. False if this is a case
+    /// for `retire`: then nothing changes.
+    #[inline(always)]
+    pub fn pass(&mut self, retirement: &Retirement) -> bool
+        requires goes { retirement.now.fate ≡ Goes }
+        requires low { retirement.now.hart.0 < HARTS }
+        requires count { (note_of self.old.notes retirement.now.hart.0).count + 1 < 2 ^ 64 }
+        ensures state { result ≡ true → self.new ≡ after_retirement self.old retirement.now [] }
+        ensures fate { result ≡ true → (turn_in self.old retirement.now []).fate ≡ Goes }
+        ensures others { result ≡ true → (turn_in self.old retirement.now []).others ≡ [] }
+        ensures same { result ≡ false → self.new ≡ self.old }
+    {
+        let is_kept = self.is_kept;
+        if !is_kept {
+            return true;
+        }
+        let is_passing = is_passing(&self.seats, usize::from(self.timing.cores), retirement);
+        if is_passing {
+            pass(&mut self.notes, retirement.hart, retirement.line);
+        }
+        is_passing
+    }
+
     /// A sleeping hart is woken: it has a core at once.
     pub fn wake(&mut self)
         requires { self.old.seats.on < 2 ^ 63 }
@@ -177,7 +217,7 @@ impl TimingState {
     }
 
     /// How many instructions a hart has retired.
-    #[inline]
+    #[inline(always)]
     pub fn count(&self, hart: HartId) -> u64
         ensures { result ≡ (note_of self.now.notes hart.0).count }
     {
@@ -186,7 +226,7 @@ impl TimingState {
 
     /// The line of the last instruction with a line that a hart has retired, or that its maker had
     /// retired when it was made. A machine that keeps nothing notes none.
-    #[inline]
+    #[inline(always)]
     pub fn last_line(&self, hart: HartId) -> Option<LineId>
         ensures { number_of result ≡ (note_of self.now.notes hart.0).last }
     {
@@ -210,7 +250,7 @@ impl TimingState {
     }
 
     /// A hart's next instruction.
-    #[inline]
+    #[inline(always)]
     fn next(&self, hart: HartId, instr: Option<Instr>) -> Instruction
         ensures { result ≡ record {
           hart = hart;
@@ -226,14 +266,18 @@ impl TimingState {
     }
 
     /// The cycles of a hart's next instruction.
-    #[inline]
+    #[inline(always)]
     pub fn cycles(&self, hart: HartId, instr: Option<Instr>) -> u64
         ensures cycles { result ≡ timed_cycles self.now.timing.costs self.now.timing.seed hart.0
             (note_of self.now.notes hart.0).count instr }
         ensures few { result ≤ 20000 }
     {
-        let next = self.next(hart, instr);
-        cycles_of(self.timing.costs, self.timing.seed, &next)
+        let cycles = self.timing.costs.cycles(instr);
+        if self.jitter.is_doubled(hart, self.count(hart)) {
+            2 * cycles
+        } else {
+            cycles
+        }
     }
 
     /// The ticks of a hart's next instruction, which is selected or not; the speedup is in per
@@ -281,6 +325,7 @@ impl TimingState {
     {
         self.timing = other.timing;
         self.is_kept = other.is_kept;
+        self.jitter.copy_from(&other.jitter);
         self.notes.copy_from(&other.notes);
         copy_seats(&mut self.seats, &other.seats);
     }

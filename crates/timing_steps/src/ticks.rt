@@ -27,7 +27,7 @@ pub struct Instruction {
 }
 
 /// The cycles of an instruction with these costs and this seed of the jitter, 0 for none.
-#[inline]
+#[inline(always)]
 pub fn cycles_of(costs: Costs, seed: u64, next: &Instruction) -> u64
     requires costs { AreCosts costs }
     ensures cycles { result ≡ timed_cycles costs seed next.now.hart.0 next.now.count next.now.instr }

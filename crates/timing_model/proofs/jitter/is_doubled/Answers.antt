@@ -1,7 +1,5 @@
-use Rattle.std.proofs.Common.{◌≡◌, ℕ, ◌%◌, ◌/◌, ◌≤◌, ◌+◌, ◌^◌, ◌==◌, false, nat_lt, ap, sym, ◌∙◌, refl, arith}
-use Rattle.std.proofs.lemmas.Bool.{ne_eqb, le-ltb}
-use Rattle.std.proofs.lemmas.Nat.{mod_below}
-use Rattle.timing_laws.specs.Noted.{splitmix, chance, is_doubled}
+use Rattle.std.proofs.Common.{◌≡◌, ℕ, false, refl, ap, ◌∙◌}
+use Rattle.timing_laws.specs.Noted.{splitmix, is_doubled}
 use Rattle.timing_model.proofs.jitter.is_doubled.Goals as goal
 
 -- with no seed nothing costs twice
@@ -9,28 +7,8 @@ unseeded : (seed hart count : ℕ) → seed ≡ 0 → false ≡ is_doubled seed 
 unfolding is_doubled
 unseeded seed hart count none = rw none refl
 
--- with a seed
-seeded : (seed hart count key drawn most : ℕ) → (seed == 0) ≡ false → key ≡ splitmix seed hart → drawn ≡ splitmix key count → most ≡ chance key (count / 1000) → nat_lt (drawn % 100) most ≡ is_doubled seed hart count
-unfolding is_doubled
-seeded seed hart count key drawn most some key_is drawn_is most_is = rw (drawn_is, most_is, key_is, some) refl
-
--- no chance is so great
-above : (drawn n : ℕ) → 21 ≤ drawn → false ≡ nat_lt drawn (n % 21)
-above drawn n high = sym (le-ltb drawn (n % 21) (omega (arith, high, mod_below n 21 (omega arith))))
-
-above_each : (drawn key block : ℕ) → 21 ≤ drawn → false ≡ nat_lt drawn (chance key block)
-unfolding chance
-above_each drawn key block high = above drawn (splitmix key (2 ^ 63 + block)) high
-
 pub returns-then-seed-eq0 : goal.returns-then-seed-eq0
 returns-then-seed-eq0 c = unseeded c.args.seed c.args.hart c.args.count c.if-seed-eq0.true
 
-pub returns-then-drawn-lt-CHANCES : goal.returns-then-drawn-lt-CHANCES
-returns-then-drawn-lt-CHANCES c =
-    seeded c.args.seed c.args.hart c.args.count c.splitmix-key.result c.splitmix-drawn.result c.chance.result (ne_eqb c.args.seed 0 c.if-seed-eq0.false) (c.splitmix-key.ensures ∙ ap (splitmix c.args.seed) c.from.ensures) c.splitmix-drawn.ensures c.chance.ensures
-
-pub returns-else-drawn-lt-CHANCES : goal.returns-else-drawn-lt-CHANCES
-returns-else-drawn-lt-CHANCES c =
-    le-ltb (c.splitmix-drawn.result % 100) 21 (omega (arith, c.if-drawn-lt-CHANCES.false))
-    ∙ above_each (c.splitmix-drawn.result % 100) c.splitmix-key.result (c.args.count / 1000) (omega (arith, c.if-drawn-lt-CHANCES.false))
-    ∙ seeded c.args.seed c.args.hart c.args.count c.splitmix-key.result c.splitmix-drawn.result (chance c.splitmix-key.result (c.args.count / 1000)) (ne_eqb c.args.seed 0 c.if-seed-eq0.false) (c.splitmix-key.ensures ∙ ap (splitmix c.args.seed) c.from.ensures) c.splitmix-drawn.ensures refl
+pub returns : goal.returns
+returns c = c.is_doubled_by.ensures c.args.seed c.args.hart c.if-seed-eq0.false (c.splitmix.ensures ∙ ap (splitmix c.args.seed) c.from.ensures)
