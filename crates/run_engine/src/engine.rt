@@ -367,13 +367,7 @@ impl<'a> Engine<'a> {
     /// Retires the instruction of a running hart whose turn it is, and that visits no point. True
     /// if it was quiet. Otherwise it is completed as `retire` does, and `fate` gets its fate.
     #[inline(always)]
-    fn pass_once(
-        &mut self,
-        setting: &Setting,
-        turn: Turn,
-        delay: Tick,
-        fate: &mut Fate,
-    ) -> bool
+    fn pass_once(&mut self, setting: &Setting, turn: Turn, delay: Tick, fate: &mut Fate) -> bool
         requires steady { IsSteady self.old }
         requires valid { IsSetting setting.now }
         requires machine { IsOnMachine setting.now self.old }

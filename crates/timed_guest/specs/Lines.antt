@@ -1,5 +1,5 @@
 -- The lines of the words of a program's code.
-use Rattle.std.specs.Prelude.{◌≡◌, ℕ, ◌+◌, ◌*◌, ◌<◌, List, get_or, Option, None, option_map}
+use Rattle.std.specs.Prelude.{◌≡◌, ℕ, ◌+◌, ◌*◌, ◌<◌, List, get_or, Option, option_map}
 use Rattle.coz_types.specs.declared.LineId.{LineId}
 use Rattle.line_index.specs.Index.{Index, position_at}
 use Rattle.timed_guest.specs.Retire.{line_id}

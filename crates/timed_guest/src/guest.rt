@@ -548,28 +548,12 @@ impl<'a> TimedGuest<'a> {
         let line = self.line_noted(hart);
         let gives_up = self.gives_up(hart);
         let own = self.guest.retire(hart, net, started);
-        let has_passed = pass(
-            &mut self.state,
-            hart,
-            net,
-            line,
-            gives_up,
-            own,
-            started,
-        );
+        let has_passed = pass(&mut self.state, hart, net, line, gives_up, own, started);
         if has_passed {
             return true;
         }
         *fate = own;
-        turn(
-            &mut self.state,
-            hart,
-            net,
-            line,
-            gives_up,
-            fate,
-            started,
-        );
+        turn(&mut self.state, hart, net, line, gives_up, fate, started);
         false
     }
 

@@ -1,8 +1,7 @@
-use Rattle.std.proofs.Common.{◌≡◌, [], List, ℕ, sym, ap, ◌∙◌}
+use Rattle.std.proofs.Common.{List, ℕ, sym, ap, ◌∙◌}
 use Rattle.machines.specs.declared.Fate.{Fate}
 use Rattle.machines.specs.declared.Fate.TheVariants.{Goes}
-use Rattle.timing_laws.specs.Cores.{Turned}
-use Rattle.timing_steps.specs.State.{State, after_retirement, turn_in}
+use Rattle.timing_steps.specs.State.{after_retirement}
 use Rattle.timed_guest.specs.Retire.{past_of}
 use Rattle.timed_guest.proofs.guest.pass.Goals as goal
 

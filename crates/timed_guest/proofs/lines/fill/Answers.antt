@@ -1,4 +1,4 @@
-use Rattle.std.proofs.Common.{◌≡◌, ◌+◌, ◌*◌, ◌<◌, length, arith, ◌∙◌, refl}
+use Rattle.std.proofs.Common.{◌<◌, length, arith, ◌∙◌, refl}
 use Rattle.std.proofs.lemmas.List.{length-set}
 use Rattle.timed_guest.proofs.WordLines.{none_yet, one_line_more}
 use Rattle.timed_guest.proofs.lines.fill.Goals as goal

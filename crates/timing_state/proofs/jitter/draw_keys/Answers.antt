@@ -1,4 +1,4 @@
-use Rattle.std.proofs.Common.{◌≡◌, ◌<◌, length, arith, ◌∙◌, refl}
+use Rattle.std.proofs.Common.{◌<◌, length, arith, ◌∙◌, refl}
 use Rattle.std.proofs.lemmas.List.{length-set}
 use Rattle.timing_state.proofs.Drawn.{none_yet, one_key_more, all_keys}
 use Rattle.timing_state.proofs.jitter.draw_keys.Goals as goal

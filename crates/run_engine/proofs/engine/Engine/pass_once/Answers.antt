@@ -1,4 +1,4 @@
-use Rattle.std.proofs.Common.{◌≡◌, ◌∙◌, ℕ, ◌+◌, ◌^◌, ◌≤◌, List, [], length, nat_le, ap, sym, refl, arith, subst}
+use Rattle.std.proofs.Common.{◌∙◌, ℕ, ◌+◌, ◌≤◌, List, length, nat_le, ap, sym, arith, subst}
 use Rattle.machines.specs.declared.Fate.TheVariants.{Goes}
 use Rattle.timed_guest.specs.Guest.{Timed}
 use Rattle.timed_guest.specs.Retire.{retirement}

@@ -1,6 +1,5 @@
 use Rattle.std.proofs.Common.{◌+◌, ◌<◌, List, ℕ, length, ap, sym, subst, ◌∙◌}
 use Rattle.std.specs.Prelude.{IsTrue}
-use Rattle.machines.specs.declared.Fate.{Fate}
 use Rattle.timing_model.specs.Timing.{IsUsual}
 use Rattle.timing_model.specs.declared.timing.Timing.{Timing}
 use Rattle.timing_steps.specs.State.{State, after_retirement, turn_in}
