@@ -1,2 +1,3 @@
 pub mod Tiling
 pub mod Rooting
+mod Examples

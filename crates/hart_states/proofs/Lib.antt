@@ -1,3 +1,4 @@
 pub mod Lives
 pub mod Tiling
 pub mod Making
+pub mod Examples
