@@ -16,7 +16,8 @@ pub fn walk(engine: &mut Engine, setting: &Setting, waits: &mut Waits)
     requires setting { IsSetting setting.now }
     requires first { IsFirstOfSome setting.now engine.old }
     requires told { (c : Course) → c.line 0 ≡ [] → AreTold c 0 waits.old }
-    ensures walked { (image : ImageParts) (input : List ℕ) → IsFirst setting.now image input engine.old
+    ensures walked { (image : ImageParts) (input : List ℕ)
+        → IsFirst setting.now image input engine.old
         → IsWalked image input setting.now engine.new waits.new }
     ensures ended { IsSome engine.new.ending }
 {
