@@ -9,8 +9,8 @@ ghost use Rattle.average_parts.specs.Answer.{fault_line, fault_status, shared_fa
 ghost use Rattle.average_parts.specs.Program.{average_program, table_status, table_text};
 
 use crate::fault::Fault;
-use crate::table::Table;
 use crate::judge::judge;
+use crate::table::Table;
 use coz_files::Files;
 use std::alloc::Global;
 

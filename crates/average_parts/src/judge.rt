@@ -6,8 +6,8 @@ ghost use Rattle.average_parts.specs.Verdict.{bytes_of};
 ghost use Rattle.average_parts.specs.Answer.{IsMemory, FailedToRead, IsSettled, Suits};
 
 use crate::fault::Fault;
-use crate::table::Table;
 use crate::parts::{read_parts, table};
+use crate::table::Table;
 use crate::words::paths_in;
 use coz_files::Files;
 use file_read::FileFault;

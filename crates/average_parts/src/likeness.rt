@@ -20,7 +20,11 @@ pub struct Unlike {
 pub fn is_full(profile: &Profile) -> bool
     ensures { result ≡ is_full profile.now }
 {
-    profile.summaries.as_slice().iter().any(|summary| summary.speedup != 0)
+    profile
+        .summaries
+        .as_slice()
+        .iter()
+        .any(|summary| summary.speedup != 0)
 }
 
 fn first_full(parts: &[Part]) -> Option<&Part>
@@ -44,7 +48,10 @@ fn pairs_like(full: Option<&Part>, part: &Part) -> bool
     match full {
         Some(full) => {
             if is_full(&part.profile) || part.timing.seed == 0 {
-                same_pairs(part.profile.summaries.as_slice(), full.profile.summaries.as_slice())
+                same_pairs(
+                    part.profile.summaries.as_slice(),
+                    full.profile.summaries.as_slice(),
+                )
             } else {
                 true
             }
@@ -68,7 +75,10 @@ fn kind_of(first: &Part, full: Option<&Part>, before: &[Part], part: &Part) -> O
     if part.profile.budget != first.profile.budget {
         return Some(UnlikeKind::Budget);
     }
-    if !same_points(part.profile.points.as_slice(), first.profile.points.as_slice()) {
+    if !same_points(
+        part.profile.points.as_slice(),
+        first.profile.points.as_slice(),
+    ) {
         return Some(UnlikeKind::Points);
     }
     if !pairs_like(full, part) {
