@@ -1,8 +1,8 @@
 //! The hand-overs of a run: each time that a hart begins to run, with the hart that brought this
 //! about; and the path back from the end of the run, from hand-over to hand-over.
 //!
-//! A hart runs on from instruction to instruction, so its hand-overs tell how it came to run at each
-//! moment. There are far fewer of them than instructions.
+//! A hart runs on from instruction to instruction, so its hand-overs tell how it came to run at
+//! each moment. There are far fewer of them than instructions.
 #![tactic(auto)]
 
 ghost use Rattle.hart_handovers.specs.Laws.{HandoversAreWhole};

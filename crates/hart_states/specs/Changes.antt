@@ -26,7 +26,8 @@ made_at h (c ∷ past) = if h == c.hart.0 then moment_or (made_at h past) c.mome
 -- its first change
 abbrev pub earliest : ℕ → List Change → Option Change
 earliest h [] = None
-earliest h (c ∷ past) = if h == c.hart.0 then Some (unwrap_or (earliest h past) c) else earliest h past
+earliest h (c ∷ past) =
+    if h == c.hart.0 then Some (unwrap_or (earliest h past) c) else earliest h past
 
 -- the same activity
 abbrev pub is_same : Activity → Activity → Bool

@@ -1,9 +1,10 @@
 //! What is noted of each hart of a run as it goes on, with one call for each retirement and each
-//! wake: the ticks that it runs, waits, sleeps and is ready, the intervals in which it does, and the
-//! hand-overs.
+//! wake: the ticks that it runs, waits, sleeps and is ready, the intervals in which it does, and
+//! the hand-overs.
 //!
 //! A call touches only the harts that retire, wake, are made, are woken or get a core. The first
-//! intervals and hand-overs are kept, as many as there is room for; the ticks are whole all the same.
+//! intervals and hand-overs are kept, as many as there is room for; the ticks are whole all the
+//! same.
 //!
 //! ```text
 //! let mut turns = Turns::new(alloc, Rooms { intervals: 1000, handovers: 1000 })?;

@@ -205,10 +205,10 @@ impl Turns {
         Ok(turns)
     }
 
-    /// Notes a retirement after which the run goes on. `others` are the harts that the guest made or
-    /// woke with it, and `started` those that begin to run: on cores a hart that was made or woken
-    /// first stands in line. The retiring hart is not among them, unless it gave its core up and has
-    /// it again at once.
+    /// Notes a retirement after which the run goes on. `others` are the harts that the guest made
+    /// or woke with it, and `started` those that begin to run: on cores a hart that was made or woken
+    /// first stands in line. The retiring hart is not among them, unless it gave its core up and
+    /// has it again at once.
     pub fn retire(&mut self, retirement: Retirement, others: &[HartId], started: &[HartId])
         requires low { retirement.hart.0 < HARTS }
         requires others { All (λ hart. hart.0 < HARTS) others.now }
