@@ -48,12 +48,12 @@ shorter (suc k) (l ∷ line) entering (s ∷ starting) new is apart a b c =
     let head : l ≡ s = cc in
     let tail : line ++ entering ≡ starting ++ new = cc in
     let rest : IsShorter k line starting new = shorter k line entering starting new tail apart.1 (omega arith) (omega arith)
-        (⊎_elim (λ (e : suc k ≡ suc (length starting)). inl (let f : k ≡ length starting = omega arith in f)) (λ (e : suc k ≡ suc (length line)). inr (let f : k ≡ length line = omega arith in f)) c) in
+    (⊎_elim (λ (e : suc k ≡ suc (length starting)). inl (let f : k ≡ length starting = omega arith in f)) (λ (e : suc k ≡ suc (length line)). inr (let f : k ≡ length line = omega arith in f)) c) in
     let fewer : length (l ∷ line) - suc k ≡ length line - k = omega arith in
     let out : is_among l (starting ++ new) ≡ false = ap (is_among l) (sym tail) ∙ apart.0 in
     let outs = none_among l starting new out in
     let none : is_among l (line ++ drop (length line - k) new) ≡ false =
-        ap (is_among l) rest.0 ∙ among-append l (take k starting) new ∙ none_in_both (is_among l (take k starting)) (is_among l new) (none_taken l k starting outs.0) outs.1 in
+    ap (is_among l) rest.0 ∙ among-append l (take k starting) new ∙ none_in_both (is_among l (take k starting)) (is_among l new) (none_taken l k starting outs.0) outs.1 in
     subst (λ (n : ℕ). ((l ∷ line) ++ drop n new ≡ take (suc k) (s ∷ starting) ++ new) × AllApart ((l ∷ line) ++ drop n new)) (sym fewer)
     (ap₂ (λ (x : ℕ) (xs : List ℕ). x ∷ xs) head rest.0, (none, rest.1))
 
@@ -62,7 +62,7 @@ pub shorter_passes : (c : Course) (n now before : ℕ) (entering starting new : 
 shorter_passes c n now before entering starting new p count is =
     let k : ℕ = min (length starting) before in
     let one : IsShorter k (c.line n) starting (c.line (suc n)) =
-        shorter k (c.line n) entering starting (c.line (suc n)) p.line p.apart (omega arith) (omega (arith, count)) (either (length starting) before (length (c.line n)) count) in
+    shorter k (c.line n) entering starting (c.line (suc n)) p.line p.apart (omega arith) (omega (arith, count)) (either (length starting) before (length (c.line n)) count) in
     let short : IsShorter k (c.line n) starting new = subst (IsShorter k (c.line n) starting) is one in
     let same : length (c.line n) - k ≡ before - k = ap (λ (m : ℕ). m - k) count in
     record {
@@ -92,5 +92,5 @@ follow_told c n now before started line entered old new is told count after p =
     let less = shorter_passes c n now before entered (numbers started) line p count after in
     let k : ℕ = min (length started) before in
     let passes : Passes c n now (drop (before - k) line) (take k (numbers started)) =
-        subst (λ (m : ℕ). Passes c n now (drop (before - min m before) line) (take (min m before) (numbers started))) many less in
+    subst (λ (m : ℕ). Passes c n now (drop (before - min m before) line) (take (min m before) (numbers started))) many less in
     subst (λ (waits : List Wait). AreTold c (suc n) waits) (sym is) (pass_told c n now old _ _ told passes)

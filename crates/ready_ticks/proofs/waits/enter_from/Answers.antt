@@ -1,7 +1,7 @@
 use Rattle.machines.specs.Places.{change, change_each}
 use Rattle.std.proofs.Common.{ℕ, drop, ◌<◌, subst, ap, ◌∙◌}
 use Rattle.ready_ticks.specs.Waits.{entered_at, never}
-use Rattle.ready_ticks.proofs.Changes.{one_fewer, none_in_line}
+use Rattle.ready_ticks.proofs.Changes.{one_fewer}
 use Rattle.ready_ticks.proofs.waits.enter_from.Goals as goal
 
 pub loop-place-preserved : goal.loop-place-preserved
