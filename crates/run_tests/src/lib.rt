@@ -24,6 +24,8 @@ mod machine_tests;
 #[cfg(test)]
 mod path_tests;
 #[cfg(test)]
+mod plain_tests;
+#[cfg(test)]
 mod shortened_run_tests;
 #[cfg(test)]
 mod timed_guest_tests;
