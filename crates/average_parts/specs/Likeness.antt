@@ -152,7 +152,7 @@ abbrev pub count_runs : Option Part → ℕ
 count_runs None = 0
 count_runs (Some part) = length part.profile.summaries
 
--- it has so many points, and so many runs if one of them has a speedup over 0
+-- it has n points, and m runs if one of them has a speedup over 0
 pub record IsLike (n m : ℕ) (part : Part) : Type 0 where
   pub points : length part.profile.points ≡ n
   pub runs : is_full_part part ≡ true → length part.profile.summaries ≡ m

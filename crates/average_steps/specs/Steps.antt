@@ -116,7 +116,7 @@ seed_values base point runs =
 abbrev pub seed_total : Pace → ℕ → List Summary → Option ℤ
 seed_total base point runs = option_map total (present (seed_values base point runs))
 
--- of a line with so many runs from a position on
+-- of a line with this number of runs from a position on
 abbrev pub totals_of : Pace → ℕ → List Profile → ℕ → ℕ → List (Option ℤ)
 totals_of base point seeds start count =
     map (λ (p : Profile). seed_total base point (take count (drop start p.summaries))) seeds

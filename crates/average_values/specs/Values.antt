@@ -31,7 +31,7 @@ mean values = int_div_euclid (total values) (pos (length values))
 
 -- ---- its error
 
--- how far a value is from the mean of so many values of this sum, times their number
+-- the distance of a value from the mean of `count` values of this sum, times their number
 abbrev pub deviation : ℕ → ℤ → ℤ → ℕ
 deviation count sum value = unsigned_abs (pos count *ℤ value -ℤ sum)
 
@@ -40,7 +40,7 @@ abbrev pub spread : List ℤ → ℕ
 spread values =
     sum_by (λ v. deviation (length values) (total values) v * deviation (length values) (total values) v) values
 
--- The variance of the mean of values, each a sum of so many parts, is their spread over this: the
+-- The variance of the mean of values, each a sum of `parts` parts, is their spread over this: the
 -- square of the parts and of their number, for the deviations, then one less than the number, for
 -- the variance, and the number again, for that of the mean.
 abbrev pub scale : ℕ → ℕ → ℕ
@@ -51,7 +51,7 @@ pub record Spread : Type 0 where
   pub squares : ℕ
   pub scale : ℕ
 
--- of the mean of values, each a sum of so many parts; absent for fewer than two values
+-- of the mean of values, each a sum of `parts` parts; absent for fewer than two values
 abbrev pub variance : ℕ → List ℤ → Option Spread
 variance parts values =
     if nat_lt (length values) 2 then None
@@ -63,8 +63,8 @@ error_from a b = root ((a.squares * b.scale + b.squares * a.scale) / (a.scale * 
 
 -- ---- a line
 
--- the delay of so many runs at a speedup, over their number and the speedup, as a part of the
--- net time of a base of so many runs over their number
+-- the mean delay of the runs at a speedup, over the speedup, as a part of the mean net time of the
+-- runs of a base
 abbrev pub cost : Pace → ℕ → ℕ → ℕ → ℕ → Option ℕ
 cost base bases delay runs speedup =
     if base.net == 0 then None

@@ -33,7 +33,7 @@ fn scale(parts: u128, count: u128) -> u128
     parts * parts * cube * (count - 1)
 }
 
-/// The variance of the mean of these values, each a sum of so many parts. None for fewer than two.
+/// The variance of the mean of these values, each a sum of `parts` parts. None for fewer than two.
 pub fn variance_of(parts: u64, values: &[i128]) -> Option<Variance>
     requires some { 0 < parts }
     requires parts { parts ≤ most_parts }

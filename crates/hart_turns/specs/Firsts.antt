@@ -1,4 +1,4 @@
--- The first items of a list, with room for only so many.
+-- The first items of a list that holds at most a given number of items.
 use Rattle.std.specs.Prelude.{ℕ, List, [], ◌∷◌, ◌++◌, length, take, slice_get, Option, Some, if◌then◌else◌, nat_lt, unwrap_or}
 
 pub record Held (T : Type 0) : Type 0 where

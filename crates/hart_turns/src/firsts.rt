@@ -40,7 +40,7 @@ fn leave_out<T: Copy>(left_out: &mut Option<T>, item: T)
 }
 
 impl<T: Copy> Firsts<T> {
-    /// Returns an empty list with room for so many items. Fails only if out of memory.
+    /// Returns an empty list that holds at most `room` items. Fails only if out of memory.
     pub fn new(alloc: Global, room: usize) -> Result<Firsts<T>, AllocError>
         ensures { IfOk result (λ firsts. firsts
             ≡ record { items = []; room = room; left_out = None }) }

@@ -11,13 +11,13 @@ use Rattle.path_causes.specs.declared.cause.Cause.{Cause}
 -- ---- what has happened to a hart, the latest first
 
 pub data Happening : Type 0 where
-  -- an event started it, and its next instruction takes so many ticks
+  -- an event started it, and its next instruction takes this many ticks
   begun : ℕ → ℕ → Happening
   -- it retired with an event
   retired : ℕ → Happening
-  -- it retired with an event, and sleeps for so many ticks
+  -- it retired with an event, and sleeps for this many ticks
   slept : ℕ → ℕ → Happening
-  -- it woke, and its next instruction takes so many ticks
+  -- it woke, and its next instruction takes this many ticks
   woke : ℕ → Happening
 
 -- the latest event that started the hart, or the one of its own after which it slept

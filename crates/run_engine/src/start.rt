@@ -24,7 +24,7 @@ pub(crate) struct Cost {
     pub(crate) selected: bool,
 }
 
-/// The cost of a hart's next instruction of so many cycles, selected or not.
+/// The cost of a hart's next instruction, which takes this many cycles, selected or not.
 #[inline(always)]
 fn cost_by(setting: &Setting, cycles: u64, selected: bool) -> Cost
     requires speedup { setting.now.choice.speedup ≤ MAX_SPEEDUP }

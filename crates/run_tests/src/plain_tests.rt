@@ -67,7 +67,7 @@ static ROWS: [Row; 5] = [
     },
 ];
 
-/// The usual machine with so many cores, and slices of so many cycles.
+/// The usual machine, with this number of cores, and slices of this many cycles.
 fn timing_of(cores: u16, slice: u64) -> Timing
     ensures { IsTiming result }
 {

@@ -75,7 +75,7 @@ fn is_over(seats: &Seats, retirement: &Retirement) -> bool
     seats.slice_ends.get(retirement.hart, 0) <= retirement.moment || retirement.gives_up
 }
 
-/// Whether nothing but the note of its hart changes with a retirement on so many cores, after
+/// Whether nothing but the note of its hart changes with a retirement on `cores` cores, after
 /// which the guest lets the hart go on and starts no other: its slice is not over, and nobody in
 /// line has a free core.
 #[inline(always)]

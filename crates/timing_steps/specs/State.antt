@@ -14,7 +14,7 @@ use Rattle.timing_steps.specs.declared.retirement.Retirement.{Retirement}
 abbrev pub number_of : Option LineId → Option ℕ
 number_of line = option_map (λ (l : LineId). l.0) line
 
--- at first hart 0 has a core, and a slice of so many ticks
+-- at first hart 0 has a core, and a slice of this many ticks
 abbrev pub first_seats : ℕ → Seats
 first_seats slice = record { ready = []; on = 1; slice_ends = slice ∷ [] }
 
@@ -40,14 +40,14 @@ keeps t = nat_lt t.cores 256 || charges t.charge || not (t.seed == 0)
 abbrev pub is_over_at : Seats → ℕ → ℕ → Bool → Bool
 is_over_at s h v gives_up = nat_le (get_or s.slice_ends h 0) v || gives_up
 
--- what a retirement of a guest that made or woke these others comes to on so many cores, with
--- slices of so many cycles
+-- the result of a retirement on this number of cores, with slices of this many cycles, of a guest
+-- that made or woke these others
 abbrev pub turn_on : ℕ → ℕ → Retirement → List ℕ → Seats → Turned
 turn_on cores slice r others s =
     turned_by cores (r.moment + 100 * slice) r.hart.0 (is_over_at s r.hart.0 r.moment r.gives_up)
     others r.fate s
 
--- what it comes to in a state
+-- the result of a retirement in a state
 abbrev pub turn_in : State → Retirement → List ℕ → Turned
 turn_in s r others =
     if keeps s.timing then turn_on s.timing.cores s.timing.slice r others s.seats
@@ -113,7 +113,7 @@ pub record IsBeside {G : Type 0} (x : Experiment G) (n : Noting G) (w : Slicing 
 abbrev pub StepsAreTheGuests : {G : Type 0} → Experiment G → Type 0
 StepsAreTheGuests {G} x = (n : Noting G) (w : Slicing (Noted G)) → IsBeside x n w
 
--- What stands in line and comes to stand there is fewer than the harts of a guest with so many, if
+-- Fewer than `limit` harts are in line after a retirement, if the guest has at most `limit` harts,
 -- each hart in line is there once and could run or sleeps, and the retiring hart has a core.
 abbrev pub LineHasRoom : {G : Type 0} → Guest G → (G → Type 0) → ℕ → Type 0
 LineHasRoom {G} guest Good limit =
